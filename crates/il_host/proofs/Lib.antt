@@ -1,6 +1,5 @@
 pub mod CommandTravels
 pub mod CommandLogs
-pub mod WholeReadings
 pub mod Devices
 pub mod Keeping
 pub mod LoopEvents
@@ -36,6 +35,7 @@ pub mod Images
 pub mod Answered
 pub mod Runs
 pub mod GeneratedRuns
+pub mod LeftTapes
 pub mod KeptDirectories
 pub mod FinishedFirst
 pub mod HostVolumes

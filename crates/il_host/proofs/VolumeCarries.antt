@@ -34,7 +34,7 @@ use Rattle.host_model.specs.RingStates.{state_on}
 use Rattle.host_model.specs.Steps.{IsCarried, IsFetchedFrom, IsStoredAt, WentOut, in_one}
 use Rattle.il_host.specs.Standings.{fault_of}
 use Rattle.il_host.proofs.VolumeExchanges.{CarriesBy}
-use Rattle.il_host.proofs.WholeReadings.{carries_in_whole, carries_out_whole, same_transfers}
+use Rattle.loop_model.proofs.WholeReadings.{carries_in_whole, carries_out_whole, same_transfers}
 
 -- one of the transfers that pass the test begins at record n and has by itself all these bytes
 abbrev pub by_one : (Transfer → Bool) → List Transfer → ℕ → List ℕ → Bool

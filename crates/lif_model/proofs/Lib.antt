@@ -44,3 +44,4 @@ pub mod PartsWritten
 pub mod Batches
 pub mod Touching
 pub mod BatchExamples
+pub mod FinishedExamples

@@ -18,6 +18,8 @@ pub mod Parts
 pub mod Apply
 pub mod Writing
 pub mod Commit
+pub mod Changing
 pub mod History
 pub mod Plain
 pub mod Packing
+pub mod Finished

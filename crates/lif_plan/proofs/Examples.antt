@@ -23,7 +23,8 @@ use Rattle.lif_dir.specs.declared.entries.FileEntry.{FileEntry}
 use Rattle.lif_dir.specs.Changes.{change_writes, slots_with, bytes_with}
 use Rattle.lif_dir.specs.Entries.{slot_of, entry_from}
 use Rattle.lif_plan.specs.Entries.{extent_of, lies_within, ends_first}
-use Rattle.lif_plan.specs.Plans.{IsVersionOf, IsVersionOfEntry, redo_version, version_for, CommitsWith, reaches_past, IsNameRefused, IsNewName, MayTake, IsVolumeWith, IsPlan, PlacesFileOf}
+use Rattle.lif_plan.specs.Plans.{IsVersionOf, IsVersionOfEntry, CommitsWith, reaches_past, IsNameRefused, IsNewName, MayTake, IsVolumeWith, IsPlan, PlacesFileOf}
+use Rattle.lif_model.specs.Changing.{redo_version, version_for}
 use Rattle.lif_plan.proofs.Planning.{of_slots, refuses, leaves, makes}
 
 -- the redo file of version 1 on a tape of twelve records, and of version 2 on one of 44

@@ -27,7 +27,7 @@ use Rattle.lif_dir.specs.Entries.{entry_bytes}
 use Rattle.lif_dir.proofs.Bytes.{HasWidths, kind_back}
 use Rattle.lif_dir.specs.declared.change.Change.{Change}
 use Rattle.lif_dir.specs.Changes.{FitsIn, put_slot, end_write, change_writes, bytes_with}
-use Rattle.lif_plan.specs.Plans.{redo_version, version_for}
+use Rattle.lif_model.specs.Changing.{redo_version, version_for}
 use Rattle.lif_plan.specs.Refusals.{keeps_behind}
 use Rattle.lif_plan.specs.Directories.{IsLegalDirectory}
 use Rattle.lif_plan.specs.Plans.{IsVersionOf, IsVersionOfEntry, CommitsWith, IsVolumeWith, RefusesAs, ChangesNothing, PlacesFileOf, MakesChange, reaches_past}

@@ -1,5 +1,5 @@
 -- What a command is to write of the directory, before it is written.
-use Rattle.std.specs.Prelude.{◌≡◌, ◌⊎◌, ◌<◌, ◌≤◌, ◌+◌, ◌*◌, ◌&&◌, if◌then◌else◌, nat_lt, not, ℕ, Bool, List, [], true, false, length, get_or, Option, Some, None, Result, Ok, Err}
+use Rattle.std.specs.Prelude.{◌≡◌, ◌⊎◌, ◌<◌, ◌≤◌, ◌+◌, ◌*◌, ◌&&◌, nat_lt, not, ℕ, Bool, List, [], true, false, length, get_or, Option, Some, None, Result, Ok, Err}
 use Rattle.std.specs.Str.{bytes_eq}
 use Rattle.lif_model.specs.Tape.{Tape, record_at}
 use Rattle.lif_model.specs.Gate.{gate_of}
@@ -7,7 +7,7 @@ use Rattle.lif_model.specs.Header.{HeaderParts, directory_start, header_of}
 use Rattle.lif_model.specs.Directory.{is_purged}
 use Rattle.lif_model.specs.Made.{file_length}
 use Rattle.lif_model.specs.declared.version.Version.{Version}
-use Rattle.lif_model.specs.declared.version.Version.TheVariants.{One, Two}
+use Rattle.lif_model.specs.declared.version.Version.TheVariants.{One}
 use Rattle.lif_model.specs.declared.refusal.Refusal.{Refusal}
 use Rattle.lif_model.specs.Volume.{Volume, IsVolume, redo_name, is_redo_entry, is_redo_file, is_adopted_with, is_adopted}
 use Rattle.lif_model.specs.Legal.{occupies, end_of, has_file}
@@ -29,16 +29,6 @@ IsVersionOf n slots (Some version) = is_adopted_with n version slots ≡ true
 abbrev pub IsVersionOfEntry : ℕ → List ℕ → Option Version → Type 0
 IsVersionOfEntry n slot None = is_redo_file n slot ≡ false
 IsVersionOfEntry n slot (Some version) = is_redo_entry n version slot ≡ true
-
--- the version of the redo file in the directory, and version 1 where there is none
-abbrev pub redo_version : ℕ → List (List ℕ) → Version
-redo_version n slots = if is_adopted_with n Two slots then Two else One
-
--- The version of the redo file by which a command commits. `format` makes one of version 1.
-abbrev pub version_for : ℕ → VolumeCommand → Option Volume → Version
-version_for n (Format label slots) volume = One
-version_for n command None = One
-version_for n command (Some v) = redo_version n v.slots
 
 -- with which a command commits
 abbrev pub CommitsWith : ℕ → Version → VolumeCommand → Volume → Type 0

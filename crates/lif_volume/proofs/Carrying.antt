@@ -44,12 +44,13 @@ use Rattle.lif_plan.specs.Plans.{PlacesFileOf}
 use Rattle.lif_redo.specs.Atomic.{commit_calls}
 use Rattle.lif_commit.specs.Staged.{Knows, EndsWith, CommitsSlots, past_end, calls_among, calls_of}
 use Rattle.lif_plan.specs.Directories.{IsLegalDirectory}
-use Rattle.lif_plan.specs.Plans.{version_for, CommitsWith, IsVolumeWith, RefusesAs, ChangesNothing, MakesChange}
+use Rattle.lif_plan.specs.Plans.{CommitsWith, IsVolumeWith, RefusesAs, ChangesNothing, MakesChange}
+use Rattle.lif_model.specs.Changing.{version_for, files_when, file_when, changes_when, changes_filed, IsChanged}
 use Rattle.lif_plan.proofs.Planning.{version_agrees}
 use Rattle.lif_volume.specs.declared.fault.VolumeFault.{VolumeFault}
 use Rattle.lif_volume.specs.declared.fault.VolumeFault.TheVariants.{Refused, Trouble as Troubled}
 use Rattle.lif_volume.specs.Views.{VolumeView, IsOpen, IsDirectoryOf}
-use Rattle.lif_volume.specs.Changing.{files_when, file_when, changes_when, changes_filed, IsChanged, file_runs, writes_if_any, beside, records_stored, carrying, committing_on, carrying_on, HasEitherVolume, VolumeTurns}
+use Rattle.lif_volume.specs.Changing.{file_runs, writes_if_any, beside, records_stored, carrying, committing_on, carrying_on, HasEitherVolume, VolumeTurns}
 use Rattle.lif_volume.specs.Carrying.{HasFile, file_count, records_filed, IsPartlyFiled, some_stand, next_begun, WritesFiles, changes_made, PutsFile, Puts, CarriesOut}
 use Rattle.lif_volume.proofs.Mounting.{kept_is_of, volume_on}
 use Rattle.lif_volume.proofs.Fetching.{legal_of}

@@ -22,7 +22,8 @@ use Rattle.lif_volume.specs.declared.fault.VolumeFault.TheVariants.{Refused, Tro
 use Rattle.il_ports.specs.declared.records.Trouble.TheVariants.{Medium}
 use Rattle.il_ports.specs.Transfers.{CoversOnly, WritesOnly}
 use Rattle.lif_redo.specs.Writing.{writes_among, AreSingle, run_of}
-use Rattle.lif_volume.specs.Changing.{IsFilesAndCommit, file_when, changes_when, changes_filed, IsChanged, refused_tape, IsWrittenAs, keeps_behind_command, committing, committing_on, filing, carrying, carrying_on, changing, HasEitherVolume, writes_if_any, commit_when, file_runs, AddsCommit}
+use Rattle.lif_volume.specs.Changing.{IsFilesAndCommit, refused_tape, IsWrittenAs, keeps_behind_command, committing, committing_on, filing, carrying, carrying_on, changing, HasEitherVolume, writes_if_any, commit_when, file_runs, AddsCommit}
+use Rattle.lif_model.specs.Changing.{file_when, changes_when, changes_filed, IsChanged}
 use Rattle.lif_volume.specs.Carrying.{HasFile, file_count, carry_room}
 use Rattle.lif_volume.specs.Did.{IsOneOf, refusals_of}
 use Rattle.lif_plan.specs.Refusals.{IsAmong}

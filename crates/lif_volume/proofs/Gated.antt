@@ -12,7 +12,8 @@ use Rattle.lif_model.proofs.Adopted.{clear_gate}
 use Rattle.il_ports.specs.Stores.{RecordsView}
 use Rattle.lif_volume.specs.Views.{VolumeView}
 use Rattle.lif_volume.specs.Commands.{SettlesOnly, OnlySettles}
-use Rattle.lif_volume.specs.Changing.{files_when, changes_filed, SettlesForeign}
+use Rattle.lif_volume.specs.Changing.{SettlesForeign}
+use Rattle.lif_model.specs.Changing.{files_when, changes_filed}
 use Rattle.lif_volume.proofs.Mounting.{volume_on}
 
 -- ---- each command is refused, or changes nothing

@@ -21,7 +21,7 @@ use Rattle.lif_dir.specs.Entries.{slot_bytes}
 use Rattle.lif_model.specs.declared.refusal.Refusal.{Refusal}
 use Rattle.lif_model.specs.declared.refusal.Refusal.TheVariants as refusal
 use Rattle.lif_plan.specs.Directories.{IsLegalDirectory}
-use Rattle.lif_plan.specs.Plans.{version_for}
+use Rattle.lif_model.specs.Changing.{version_for, files_when, file_when, changes_filed, IsChanged}
 use Rattle.lif_plan.specs.Refusals.{IsAmong, keeps_behind}
 use Rattle.lif_model.specs.Parts.{Part}
 use Rattle.lif_volume.specs.declared.fault.VolumeFault.{VolumeFault}
@@ -29,7 +29,7 @@ use Rattle.lif_volume.specs.declared.fault.VolumeFault.TheVariants.{Refused, Tro
 use Rattle.lif_volume.specs.Views.{VolumeView, IsOpen}
 use Rattle.lif_volume.specs.Answers.{store_answer, keeps, Answers, IsNotLif, IsLegalAs, IsSettledAs, HasVolumeOf}
 use Rattle.lif_volume.specs.Commands.{batch_calls_needed, fetching, Consults, mounting, mounting_on, AnswersTo, KeepsVolume, OnlySettles}
-use Rattle.lif_volume.specs.Changing.{files_when, file_when, changes_filed, IsChanged, refused_tape, IsWrittenOn, IsWrittenAs, keeps_behind_command, committing, filing, with_mounting, storing, batching, batching_all, carrying, carrying_on, changing, HasEitherVolume, VolumeTurns, AddsAsAnswered, Writes, TurnsVolume, WritesByCommit}
+use Rattle.lif_volume.specs.Changing.{IsWrittenIfOk, refused_tape, IsWrittenAs, keeps_behind_command, committing, filing, with_mounting, storing, batching, batching_all, carrying, carrying_on, changing, HasEitherVolume, VolumeTurns, AddsAsAnswered, Writes, TurnsVolume, WritesByCommit}
 use Rattle.lif_volume.specs.Carrying.{CarriesOutOn, CarriesOut, carry_room, batch_room}
 use Rattle.lif_volume.specs.Did.{IsOneOf, refusals_of, Alters}
 use Rattle.lif_volume.proofs.Mounting.{behind, answers_fault, nothing_mounted, mounted_as_kept, FirstBy, first_by}
@@ -88,7 +88,7 @@ answers_from n command s t u (Err (Refused why)) same is = subst (λ (v : Option
 answers_from n command s t u (Err (Troubled trouble)) same is = tt
 
 pub written_from : {T : Type 0} (n : ℕ) (command : VolumeCommand) (t u : Tape) (a : Result T VolumeFault) → ((why : Refusal) → a ≡ Err (Refused why) → refused_tape command why t ≡ settled t)
-    → volume_of (settled t) ≡ volume_of t → IsWrittenOn n command (volume_of (settled t)) (settled t) u a → IsWrittenAs n command t u a
+    → volume_of (settled t) ≡ volume_of t → IsWrittenIfOk n command (volume_of (settled t)) (settled t) u a → IsWrittenAs n command t u a
 written_from n command t u (Ok x) tape same is =
     subst (λ (v : Option Volume). IsChanged (version_for n command v) (changes_filed n command v (settled t)) (file_when n command v (settled t)) u) same is
 written_from n command t u (Err (Refused why)) tape same is = is ∙ sym (tape why refl)

@@ -22,7 +22,7 @@ use Rattle.lif_model.proofs.Adopted.{adopted_some, ends_before_redo}
 use Rattle.lif_model.proofs.Apply.{next_is_adopted, adopt_is_adopted, upgrade_is_two}
 use Rattle.lif_model.proofs.Commands.{command_files, command_stops, command_commits, adopt_stops, adopt_commits, upgrade_stops, upgrade_commits}
 use Rattle.lif_plan.specs.Plans.{CommitsWith}
-use Rattle.lif_volume.specs.Changing.{files_when}
+use Rattle.lif_model.specs.Changing.{files_when}
 use Rattle.lif_volume.specs.Carrying.{HasFile}
 
 -- a commit that is stopped leaves as many records

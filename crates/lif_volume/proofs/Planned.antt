@@ -19,7 +19,8 @@ use Rattle.lif_commit.proofs.Staging.{touched_same, touched_few, calls_most}
 use Rattle.lif_plan.specs.Plans.{CommitsWith, IsVolumeWith, PlacesFileOf, MakesChange}
 use Rattle.lif_model.specs.Redo.{Changes}
 use Rattle.lif_model.specs.Commit.{IsCommitted, commit_writes}
-use Rattle.lif_volume.specs.Changing.{IsChanged, writes_if_any, beside}
+use Rattle.lif_volume.specs.Changing.{writes_if_any, beside}
+use Rattle.lif_model.specs.Changing.{IsChanged}
 use Rattle.lif_volume.specs.Carrying.{HasFile, file_count, records_filed}
 
 -- what a command is to write: by which version it commits, which slots, in which records, the slots after it, and the files

@@ -42,7 +42,8 @@ use Rattle.lif_volume.specs.declared.fault.VolumeFault.TheVariants.{Refused, Tro
 use Rattle.lif_volume.specs.Views.{VolumeView, IsOpen, IsDirectoryOf}
 use Rattle.lif_volume.specs.Answers.{store_answer, keeps, IsNotLif, IsLegalAs, IsSettledAs, HasVolumeOf}
 use Rattle.lif_volume.specs.Commands.{Consults, mounting, mounting_on, AnswersTo, KeepsVolume, OnlySettles}
-use Rattle.lif_volume.specs.Changing.{changes_when, changes_filed, IsChanged, refused_tape, IsWrittenAs, keeps_behind_command, committing, committing_on, carrying_on, HasEitherVolume, VolumeTurns, writes_if_any, AddsAsAnswered, TurnsVolume}
+use Rattle.lif_volume.specs.Changing.{refused_tape, IsWrittenAs, keeps_behind_command, committing, committing_on, carrying_on, HasEitherVolume, VolumeTurns, writes_if_any, AddsAsAnswered, TurnsVolume}
+use Rattle.lif_model.specs.Changing.{changes_when, changes_filed, IsChanged}
 use Rattle.lif_volume.specs.Formatting.{Clears, Renews}
 use Rattle.lif_volume.specs.Did.{IsOneOf, refusals_of, Alters}
 use Rattle.lif_volume.proofs.Mounting.{settles_here, behind, volume_on, kept_is_of, nothing_mounted, mounted_as_kept}

@@ -25,7 +25,8 @@ use Rattle.lif_dir.specs.Changes.{slots_with}
 use Rattle.lif_volume.specs.declared.fault.VolumeFault.{VolumeFault}
 use Rattle.lif_volume.specs.Views.{VolumeView}
 use Rattle.lif_volume.specs.Answers.{keeps, store_answer, Answers}
-use Rattle.lif_volume.specs.Changing.{beside, files_when, file_when, changes_filed, file_runs, records_stored, carrying, carrying_on, IsWrittenOn, VolumeTurns, AddsAsAnswered}
+use Rattle.lif_volume.specs.Changing.{IsWrittenIfOk, beside, file_runs, records_stored, carrying, carrying_on, VolumeTurns, AddsAsAnswered}
+use Rattle.lif_model.specs.Changing.{files_when, file_when, changes_filed}
 
 -- as many records as a file beside a directory with this header and a commit may read and write
 abbrev pub carry_room : ℕ → HeaderParts → ℕ
@@ -129,7 +130,7 @@ pub record Puts {S T : Type 0} (calls : ℕ) (command : VolumeCommand) (version 
 -- on a told tape, which is settled
 pub record CarriesOutOn {S T : Type 0} (n : ℕ) (command : VolumeCommand) (v w : RecordsView S) (t : Tape) (answer : Result T VolumeFault) : Type 0 where
   pub few : v.calls_left ≤ w.calls_left + carrying_on n command t (changes_filed n command (volume_of t) t) answer
-  pub written : (u : Tape) → w.tape ≡ Some u → IsWrittenOn n command (volume_of t) t u answer
+  pub written : (u : Tape) → w.tape ≡ Some u → IsWrittenIfOk n command (volume_of t) t u answer
   pub answers : (u : Tape) → w.tape ≡ Some u → Answers n command t u answer
   pub stops : VolumeTurns n command v w t
   pub added : AddsAsAnswered (λ k. ⊥) true n command (volume_of t) t v.transferred w.transferred answer

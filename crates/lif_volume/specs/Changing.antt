@@ -7,13 +7,12 @@ use Rattle.lif_model.specs.Directory.{slots_of}
 use Rattle.lif_model.specs.Made.{file_length}
 use Rattle.lif_model.specs.declared.version.Version.{Version}
 use Rattle.lif_model.specs.Redo.{Changes, targets_in, redo_of, settled}
-use Rattle.lif_model.specs.Commit.{IsSettleWrite, IsCommitted, commit_writes}
+use Rattle.lif_model.specs.Commit.{IsSettleWrite, commit_writes}
 use Rattle.lif_model.specs.Volume.{Volume, volume_of, is_gate_held, is_foreign_gated}
 use Rattle.lif_model.specs.Parts.{Part}
 use Rattle.lif_model.specs.Parts as part
 use Rattle.lif_model.specs.Apply.{VolumeCommand, Store, Batch, Format, IsWellFormed, apply}
-use Rattle.lif_model.specs.Fit.{Place, NoSlot, fit_in}
-use Rattle.lif_model.specs.Writing.{format_changes, changes_of, NewFile, part_files, files_left, with_files}
+use Rattle.lif_model.specs.Changing.{IsWrittenOn, changes_filed, file_when, files_when, version_for}
 use Rattle.lif_model.specs.Transfers.{Transfer}
 use Rattle.il_ports.specs.Stores.{RecordsView, RunLeaves}
 use Rattle.il_ports.specs.Transfers.{WritesOnly, GoesOnBy}
@@ -22,54 +21,20 @@ use Rattle.lif_redo.specs.Atomic.{commit_calls}
 use Rattle.lif_commit.specs.Staged.{past_end, most_commit_calls, most_batch_calls}
 use Rattle.lif_model.specs.declared.refusal.Refusal.{Refusal}
 use Rattle.lif_model.specs.declared.refusal.Refusal.TheVariants as refusal
-use Rattle.lif_plan.specs.Plans.{version_for}
 use Rattle.lif_volume.specs.declared.fault.VolumeFault.{VolumeFault}
 use Rattle.lif_volume.specs.declared.fault.VolumeFault.TheVariants.{Refused, Trouble as Troubled}
 use Rattle.lif_volume.specs.Views.{VolumeView}
 use Rattle.lif_volume.specs.Answers.{keeps}
 use Rattle.lif_volume.specs.Commands.{IsTold, SettlesOnly, mounting}
 
--- ---- what is written of a settled tape, whose volume is that one or none
+-- ---- the tape after a command
 
--- the place of a store's file
-abbrev pub place_when : ℕ → List ℕ → Option Volume → Place
-place_when n bytes (Some v) = fit_in n v (file_length bytes)
-place_when n bytes None = NoSlot
-
--- the files that it writes
-abbrev pub files_when : ℕ → VolumeCommand → Option Volume → List NewFile
-files_when n (Store name kind implementation bytes) volume =
-    part_files (part.Store name kind implementation bytes) (place_when n bytes volume)
-files_when n (Batch parts) (Some v) = files_left n parts v
-files_when n (Batch parts) None = []
-files_when n command volume = []
-
--- the tape once they are written
-abbrev pub file_when : ℕ → VolumeCommand → Option Volume → Tape → Tape
-file_when n command volume tape = with_files (files_when n command volume) tape
-
--- the records that change at once on a tape
-abbrev pub changes_when : ℕ → VolumeCommand → Option Volume → Tape → Changes
-changes_when n command (Some v) tape = changes_of n command v tape
-changes_when n (Format label slots) None tape = format_changes n label slots
-changes_when n command None tape = []
-
--- those behind the file
-abbrev pub changes_filed : ℕ → VolumeCommand → Option Volume → Tape → Changes
-changes_filed n command volume tape = changes_when n command volume (file_when n command volume tape)
-
--- the tape behind a commit of these changes, or the same tape where there are none
-abbrev pub IsChanged : Version → Changes → Tape → Tape → Type 0
-IsChanged version [] t u = u ≡ t
-IsChanged version (c ∷ cs) t u = IsCommitted version (c ∷ cs) t u
-
--- Behind an Ok the file stands, and on the tape with the file the changes of the command: all else below the redo file
--- is as it was, and the gate is closed. A command without changes leaves the tape.
-abbrev pub IsWrittenOn : {T : Type 0} → ℕ → VolumeCommand → Option Volume → Tape → Tape → Result T VolumeFault → Type 0
-IsWrittenOn n command volume t u (Ok _) =
-    IsChanged (version_for n command volume) (changes_filed n command volume t) (file_when n command volume t) u
-IsWrittenOn n command volume t u (Err (Refused why)) = u ≡ t
-IsWrittenOn n command volume t u (Err (Troubled _)) = Unit {0}
+-- After an Ok the tape is what the command makes of a settled tape, whose volume is that one or none; after a refusal it
+-- is that tape.
+abbrev pub IsWrittenIfOk : {T : Type 0} → ℕ → VolumeCommand → Option Volume → Tape → Tape → Result T VolumeFault → Type 0
+IsWrittenIfOk n command volume t u (Ok _) = IsWrittenOn n command volume t u
+IsWrittenIfOk n command volume t u (Err (Refused why)) = u ≡ t
+IsWrittenIfOk n command volume t u (Err (Troubled _)) = Unit {0}
 
 -- the tape behind a refusal is the settled one; `format` refuses for want of room before it settles
 abbrev pub refused_tape : VolumeCommand → Refusal → Tape → Tape
@@ -79,7 +44,7 @@ refused_tape command why t = settled t
 -- the same of any tape, which is settled first
 abbrev pub IsWrittenAs : {T : Type 0} → ℕ → VolumeCommand → Tape → Tape → Result T VolumeFault → Type 0
 IsWrittenAs n command t u (Err (Refused why)) = u ≡ refused_tape command why t
-IsWrittenAs n command t u answer = IsWrittenOn n command (volume_of t) (settled t) u answer
+IsWrittenAs n command t u answer = IsWrittenIfOk n command (volume_of t) (settled t) u answer
 
 -- whether the directory is kept behind an answer, where it was kept before or not: `format` that is
 -- refused for want of room leaves that, and a batch that is refused forgets it

@@ -15,7 +15,8 @@ use Rattle.lif_volume.specs.declared.fault.VolumeFault.TheVariants.{Refused, Tro
 use Rattle.lif_volume.specs.Views.{VolumeView}
 use Rattle.lif_volume.specs.Answers.{store_answer}
 use Rattle.lif_volume.specs.Commands.{IsTold, Consults, mounting, mounting_on, fetching, fetching_on, AnswersTo, KeepsVolume, OnlySettles, WritesBySettling}
-use Rattle.lif_volume.specs.Changing.{changing, carrying, carrying_on, files_when, changes_filed, keeps_behind_command, Writes, TurnsVolume, SettlesForeign, WritesByCommit}
+use Rattle.lif_volume.specs.Changing.{changing, carrying, carrying_on, keeps_behind_command, Writes, TurnsVolume, SettlesForeign, WritesByCommit}
+use Rattle.lif_model.specs.Changing.{files_when, changes_filed}
 
 -- ---- refusals
 

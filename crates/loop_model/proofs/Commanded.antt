@@ -1,5 +1,5 @@
 -- In a list of exchanges, whole and broken, each command, ready and identify frame is the controller's.
-use Rattle.std.proofs.Common.{◌≡◌, ◌∙◌, ◌++◌, ◌==◌, ◌&&◌, ◌||◌, ℕ, zero, suc, Bool, true, false, not, map, flat_map, List, [], ◌∷◌, Option, Some, None, refl, sym, ap, subst}
+use Rattle.std.proofs.Common.{◌≡◌, ◌∙◌, ◌++◌, ◌==◌, ◌&&◌, ◌||◌, ℕ, zero, suc, Bool, true, false, not, map, flat_map, List, [], ◌∷◌, Option, Some, None, refl, ap}
 use Rattle.std.specs.List.{list_all}
 use Rattle.std.proofs.lemmas.Bool.{and_from, and_parts, eq-eqb, or_left, or_right}
 use Rattle.std.proofs.lemmas.List.Folds.{list_all-append}
@@ -11,9 +11,9 @@ use Rattle.il_frames.specs.declared.frame.Frame.{Frame}
 use Rattle.il_frames.specs.Frames.{framed, is_data, is_data_class, same_but_service}
 use Rattle.il_frames.specs.Messages.{message_at, message_of}
 use Rattle.il_frames.specs.NamedFrames.{aad, ddl, ddt, entry, nrd, rfc, unl, lad, tad, unt}
-use Rattle.il_device.specs.Takes.{eto, ete}
+use Rattle.il_device.specs.Takes.{eto}
 use Rattle.loop_model.specs.Exchanges.{Answer, NotTaken, ToItsEnd, Stopped, Break, FrameLost, HostAltered, TalkerAltered, Echo, Exchange, Command, Address, Send, Receive, Identify, Piece, Whole, Cut, Reading, Start, answer_entries, break_entries, can_cut, commanded, cut_at, echoed, entries_of, is_answer, is_echo, is_exchange, is_number, is_address, is_piece, is_some_data, numbered, piece_entries, returned, start_frame}
-use Rattle.loop_model.specs.Leading.{are_commands_led, controller_after, controller_after_entry, has_no_lend, is_no_lend, is_of_controller, is_taking_back}
+use Rattle.loop_model.specs.Leading.{are_commands_led, controller_after_entry, has_no_lend, is_no_lend, is_of_controller, is_taking_back}
 use Rattle.loop_model.specs.Loops.{Loop, host_loop}
 use Rattle.loop_model.specs.Roles.{is_spoken}
 use Rattle.loop_model.proofs.LeadingLaws.{controller_after-no_lend, has_no_lend-reading}

@@ -14,6 +14,7 @@ pub mod DeviceLaws
 pub mod LeadingLaws
 pub mod Commanded
 pub mod TakingBack
+pub mod WholeReadings
 mod Examples
 mod TransferExamples
 mod LeadingExamples

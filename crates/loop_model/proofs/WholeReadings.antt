@@ -1,4 +1,4 @@
--- A log that reads as whole exchanges reads as no others, so that its units are told by the list of its transfers.
+-- A log that reads as whole exchanges reads as no others, so its units are those of the list of its transfers.
 use Rattle.std.proofs.Common.{◌≡◌, ◌∙◌, ◌&&◌, ◌==◌, ℕ, zero, suc, true, false, not, List, [], ◌∷◌, map, refl, sym, ap}
 use Rattle.std.specs.Prelude.{flat_map}
 use Rattle.std.specs.List.{list_all}
