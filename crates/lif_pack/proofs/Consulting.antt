@@ -19,7 +19,8 @@ use Rattle.lif_model.specs.Packing.{bears_mark, has_mark}
 use Rattle.lif_pack.specs.declared.tasks.Task.{Task}
 use Rattle.lif_pack.specs.declared.marks.Mark.{Mark}
 use Rattle.lif_pack.specs.Marks.{IsMarkOf}
-use Rattle.lif_pack.specs.Tasks.{IsTask, IsLeftToDo, IsFinished}
+use Rattle.lif_pack.specs.Tasks.{IsTask, IsLeftToDo}
+use Rattle.lif_model.specs.Finished.{IsFinished}
 use Rattle.lif_pack.proofs.FinishedTape.{settled_is_finished}
 use Rattle.lif_pack.specs.Steps.{volume_with}
 use Rattle.lif_pack.proofs.Tasking.{directory_is_volume}

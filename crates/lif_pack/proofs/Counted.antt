@@ -9,11 +9,11 @@ use Rattle.lif_model.specs.Legal.{is_live, has_records}
 use Rattle.lif_model.specs.Volume.{Volume, is_redo_file, is_file}
 use Rattle.lif_model.specs.Fit.{redo_place}
 use Rattle.lif_model.proofs.Adopted.{is_file_tells, redo_entry_tells}
-use Rattle.lif_model.specs.Packing.{live_length, live_records, stands_at, count_moved, redo_slot}
-use Rattle.lif_pack.specs.Steps.{volume_with, MayPack}
+use Rattle.lif_model.specs.Packing.{live_length, live_records, stands_at, count_moved, redo_slot, unmarked, packed_from}
+use Rattle.lif_pack.specs.Steps.{volume_with, MayPack, ArePackedAlike}
 use Rattle.lif_pack.proofs.Order.{live_before_redo}
 use Rattle.lif_pack.proofs.Finishing.{redo_is_two, other_is_file}
-use Rattle.lif_pack.proofs.Packs.{files_have_room}
+use Rattle.lif_pack.proofs.Packs.{files_have_room, packed_records}
 
 -- ---- lists
 
@@ -110,3 +110,25 @@ module _ (n first end redo : ℕ) (slots : List (List ℕ)) (may : MayPack n fir
     ap live_records files_before,
     records_of_live (take redo slots),
   )
+
+-- of slots of which packing makes the same they have as many records
+pub files_kept : (n first end redo redo' : ℕ) (old new : List (List ℕ)) → MayPack n first end redo old → MayPack n first end redo' new → ArePackedAlike n end old new
+    → live_records (take (redo_place new) new) ≡ live_records (take (redo_place old) old)
+files_kept n first end redo redo' old new was now alike =
+    let before : Volume = volume_with was.header old in
+    let after : Volume = volume_with now.header new in
+    let same = ap (λ (p : Volume). live_records p.slots) (alike after now.ends) in
+    let header = ap (λ (d : ℕ). live_records (packed_from d (filter (is_file n) old) ++ unmarked (redo_slot before) ∷ [])) (was.ends ∙ sym now.ends) in
+    omega (
+      arith,
+      same,
+      header,
+      packed_records n before was.volume was.version was.in_order,
+      packed_records n after now.volume now.version now.in_order,
+      ap live_records (files_before n first end redo old was),
+      ap live_records (files_before n first end redo' new now),
+      records_of_live (take redo old),
+      records_of_live (take redo' new),
+      ap (λ (r : ℕ). live_records (take r old)) was.redo_is,
+      ap (λ (r : ℕ). live_records (take r new)) now.redo_is,
+    )

@@ -1,11 +1,14 @@
 -- Worked examples of packing, computed by the checker. On the tape of forty records files stand in records 4 and 5, after
 -- a directory of two records, and the redo file of version 2 begins at record 6; on that of forty-four it begins at
 -- record 10.
-use Rattle.std.proofs.Common.{◌≡◌, ◌++◌, ℕ, List, [], ◌∷◌, Option, Some, None, Bool, true, false, get_or, length, Ok, refl, sym, ◌∙◌, ap, arith, replicate, codes}
+use Rattle.std.proofs.Common.{◌≡◌, ◌⊎◌, ◌<◌, ◌≤◌, ◌++◌, inl, inr, ℕ, List, [], ◌∷◌, Option, Some, None, Bool, true, false, get_or, length, Ok, refl, sym, ◌∙◌, ap, subst, arith, replicate, codes}
 use Rattle.std.specs.Prelude.{unwrap_or}
+use Rattle.std.proofs.lemmas.Bool.{cases_eq}
 use Rattle.std.specs.FinMap.{empty, insert}
 use Rattle.lif_model.specs.Numbers.{two_at, four_at}
-use Rattle.lif_model.specs.Tape.{Tape}
+use Rattle.lif_model.specs.Tape.{Tape, record_at}
+use Rattle.lif_model.specs.Redo.{settled}
+use Rattle.lif_model.specs.Fit.{redo_place}
 use Rattle.lif_model.specs.Gate.{is_open}
 use Rattle.lif_model.specs.Directory.{name_of, start_of, entry_at, entries_of}
 use Rattle.lif_model.specs.Made.{in_two, new_entry, with_type}
@@ -15,12 +18,14 @@ use Rattle.lif_model.specs.declared.refusal.Refusal.{Refusal}
 use Rattle.lif_model.specs.declared.refusal.Refusal.TheVariants.{NotLif, NoRedo, NeedsUpgrade, OutOfOrder}
 use Rattle.lif_model.specs.Writing.{with_entry}
 use Rattle.lif_model.specs.Legal.{is_live}
-use Rattle.lif_model.specs.Header.{HeaderParts}
+use Rattle.lif_model.specs.Header.{HeaderParts, directory_start}
 use Rattle.il_ports.specs.Stores.{RecordsView}
 use Rattle.lif_volume.specs.Views.{VolumeView}
 use Rattle.lif_volume.specs.Commands.{mounting_on}
 use Rattle.lif_pack.specs.Tasks.{MountsAlone, IsShownAs}
-use Rattle.lif_pack.specs.Packs.{IsPackedOn}
+use Rattle.lif_model.specs.Finished.{IsPackedOn, StaysOutside}
+use Rattle.lif_pack.specs.declared.pack.Packed.{Packed}
+use Rattle.lif_pack.specs.Packs.{IsPacking}
 use Rattle.lif_pack.specs.Steps.{ArePlaced, IsGap}
 use Rattle.lif_model.proofs.Examples as base
 use Rattle.lif_model.proofs.VolumeExamples.{file, a_name, b_name, numbered}
@@ -128,6 +133,49 @@ unfolding two_at four_at entries_of entry_at name_of is_open with_type new_entry
 has_gap is =
     let volume : is.volume ≡ before = ap (λ (o : Option Volume). unwrap_or o before) (sym is.has) in
     not_three (ap slots_of (ap (packed 40) (sym volume) ∙ is.same ∙ volume))
+
+-- C is moved from record 5, which is free then and stays as it was
+abbrev gap_tape : Tape
+gap_tape = small (gone (file a_name 4 1) ++ file c_name 5 1 ++ small_redo ++ base.end_entry) (numbered 4) (numbered 5)
+
+abbrev left_free : Tape
+left_free = small (file c_name 4 1 ++ small_redo ++ base.end_entry) (numbered 5) (numbered 5)
+
+-- below the redo file, records 0, 1 and 5 are outside the directory and the packed files
+three_stay : (k : ℕ) → k < 6 → (k < 2) ⊎ (5 ≤ k) → record_at left_free k ≡ record_at gap_tape k
+three_stay k lt (inr over) = let last : 5 ≡ k = omega (arith, lt, over) in subst (λ (m : ℕ). record_at left_free m ≡ record_at gap_tape m) last refl
+three_stay k lt (inl under) = elim (cases_eq k 0) [
+  | inl e ↦ subst (λ (m : ℕ). record_at left_free m ≡ record_at gap_tape m) (sym e) refl
+  | inr off ↦ let one : 1 ≡ k = omega (arith, under, off) in subst (λ (m : ℕ). record_at left_free m ≡ record_at gap_tape m) one refl
+]
+
+is_packing : IsPacking 40 gap_tape left_free (record { files = 1; free = 1 })
+unfolding two_at four_at entries_of entry_at name_of is_open with_type new_entry with_start unmarked
+is_packing = record {
+  volume = before;
+  shown = refl;
+  may = refl;
+  after = refl;
+  shown_after = refl;
+  is_packed = record { volume = with (file c_name 4 1 ∷ small_redo ∷ []) c_alone; has = refl; unmarked = refl; same = refl };
+  is_settled = refl;
+  outside = record { records = refl; same = three_stay };
+  files = refl;
+  free = refl;
+}
+
+-- but a packing that writes that record too is none
+not_four : ◌≡◌ {A = ℕ} 4 5 → ⊥
+not_four e = cc
+
+writes_free : (answer : Packed) → IsPacking 40 gap_tape packed_tape answer → ⊥
+unfolding two_at four_at entries_of entry_at name_of is_open with_type new_entry with_start unmarked
+writes_free answer is =
+    let volume : is.volume ≡ before = ap (λ (o : Option Volume). unwrap_or o before) (sym is.shown) in
+    let outside = subst (λ (v : Volume). StaysOutside (directory_start v.header) (packed_start v (redo_place v.slots)) (settled gap_tape) packed_tape) volume is.outside in
+    let free : 5 ≤ 5 = omega arith in
+    let below : 5 < 6 = omega arith in
+    not_four (ap (λ (bytes : List ℕ). get_or bytes 0 0) (outside.same 5 below (inr free)))
 
 -- purged slots are packed away, and a file out of order is refused
 abbrev packs_to : List (List ℕ) → Option Refusal × Option Volume → Type 0

@@ -21,7 +21,8 @@ use Rattle.lif_pack.specs.declared.marks.Move.{Move}
 use Rattle.lif_pack.specs.declared.tasks.Task.{Task}
 use Rattle.lif_pack.specs.Marks.{IsMoveAt, IsMarked}
 use Rattle.lif_pack.specs.Moving.{IsMarkedAs, HasMoved}
-use Rattle.lif_pack.specs.Tasks.{IsTaskOf, IsFinished, IsCleared}
+use Rattle.lif_pack.specs.Tasks.{IsTaskOf, IsCleared}
+use Rattle.lif_model.specs.Finished.{IsFinished}
 use Rattle.lif_pack.proofs.Order.{CanMove, move_is, above_directory}
 use Rattle.lif_pack.proofs.Order as order
 use Rattle.lif_pack.proofs.Finishing.{redo_here}
@@ -192,7 +193,7 @@ module _ (n : ℕ) (t : Tape) (v : Volume) (is : IsTape n t) (some : volume_of t
   r = redo_place v.slots
 
   -- what it is finished to
-  finished_is : finished t ≡ finished_with v (move_of v) t
+  pub finished_is : finished t ≡ finished_with v (move_of v) t
   finished_is =
       let here : bears_mark (length t) v ≡ true = ap (λ (m : ℕ). bears_mark m v) is.records ∙ marked in
       (λ i. finished_by (some i) (quiet i)) ∙ ap (λ (b : Bool). if b then finished_with v (move_of v) t else t) here

@@ -1,25 +1,28 @@
 -- What was left to finish is done, on the tape and in the slots in memory.
-use Rattle.std.proofs.Common.{◌≡◌, ◌<◌, ◌≤◌, ◌+◌, ◌-◌, ◌*◌, ◌/◌, ℕ, zero, suc, List, [], ◌∷◌, Bool, true, if◌then◌else◌, Option, Some, None, length, get_or, set, take, refl, sym, ◌∙◌, ap, subst, arith, get_or-set_other}
+use Rattle.std.proofs.Common.{◌≡◌, ◌<◌, ◌≤◌, ◌+◌, ◌-◌, ◌*◌, ◌/◌, ℕ, List, [], Bool, true, if◌then◌else◌, Option, Some, None, length, get_or, set, take, refl, sym, ◌∙◌, ap, subst, arith, get_or-set_other}
 use Rattle.std.specs.Prelude.{IfSome}
 use Rattle.std.proofs.lemmas.List.{set-get_or}
 use Rattle.lif_model.specs.Tape.{Tape, IsTape}
 use Rattle.lif_model.specs.Header.{directory_start, directory_end}
 use Rattle.lif_model.specs.declared.version.Version.TheVariants.{Two}
-use Rattle.lif_model.specs.Redo.{redo_start, settled}
+use Rattle.lif_model.specs.Redo.{redo_start, settled, IsSettled}
 use Rattle.lif_model.specs.Volume.{Volume, volume_of}
 use Rattle.lif_model.specs.Fit.{redo_place}
 use Rattle.lif_model.proofs.Directory.{settled_shape}
-use Rattle.lif_model.specs.Packing.{live_records, are_packed, with_start, redo_slot, unmarked, bears_mark, has_mark, move_of, finishing_slots, finished_volume_of, slots_after, finished_files, finished_volume}
+use Rattle.lif_model.specs.Packing.{live_records, are_packed, packed_start, with_start, redo_slot, unmarked, bears_mark, has_mark, move_of, finishing_slots, finished_volume_of, slots_after, finished_files, finished_volume}
 use Rattle.lif_pack.specs.declared.marks.Move.{Move}
 use Rattle.lif_pack.specs.declared.tasks.Task.{Task}
 use Rattle.lif_pack.specs.Marks.{IsMarked}
 use Rattle.lif_pack.specs.Moving.{MayMove}
 use Rattle.lif_pack.specs.Steps.{MayPack, ArePlaced}
-use Rattle.lif_pack.specs.Tasks.{IsFinished, calls_to_finish}
+use Rattle.lif_pack.specs.Tasks.{MayFinish, calls_to_finish}
+use Rattle.lif_model.specs.Finished.{IsFinished, StaysOutside}
 use Rattle.lif_pack.specs.Packs.{IsFileLeft, IsTaskWith, AreThoseOf, slots_finished, calls_left_to, IsFinishedTo}
 use Rattle.lif_pack.proofs.Finishing.{redo_here}
 use Rattle.lif_pack.proofs.Finishes.{unmarked_volume, finishes}
 use Rattle.lif_pack.proofs.MovedVolume.{unmarked_same, no_mark_is_zero}
+use Rattle.lif_pack.proofs.Walking.{live_grows}
+use Rattle.lif_pack.proofs.Beyond.{task_outside}
 use Rattle.lif_pack.proofs.Placing.{may_pack_on, placed_on, placed_below, end_below}
 
 -- ---- the slots in memory
@@ -51,11 +54,12 @@ module _ (n first end redo : ℕ) (slots : List (List ℕ)) (t : Tape) (v : Volu
         slots_are = sym (held_same n first end redo slots v those);
         starts = those.starts;
         ends = those.ends;
+        outside = record { records = refl; same = λ k lt out. refl };
       }
 
   -- ---- a task was carried out
 
-  module _ (task : Task) (those : AreThoseOf n first end redo (Some task) slots v) (x : Tape) (done : IsFinished t x) where
+  module _ (quiet : IsSettled t) (task : Task) (may : MayFinish n task) (those : AreThoseOf n first end redo (Some task) slots v) (x : Tape) (done : IsFinished t x) where
     abbrev w : Volume
     w = finished_volume v (settled t)
 
@@ -70,14 +74,19 @@ module _ (n first end redo : ℕ) (slots : List (List ℕ)) (t : Tape) (v : Volu
         let marked : bears_mark (length (settled t)) v ≡ true = ap (λ (m : ℕ). bears_mark m v) (settled_shape n t is).records ∙ those.task_is.marked in
         ap (λ (b : Bool). (if b then record v { slots = slots_after (finishing_slots v (move_of v)) v.slots; files = finished_files v (move_of v) (settled t) } else v).slots) marked
 
-    finished_to : (later : List (List ℕ)) → w.slots ≡ later → IsFinishedTo first end later t x
-    finished_to later same = record {
+    abbrev until : ℕ
+    until = packed_start w (redo_place w.slots)
+
+    finished_to : (later : List (List ℕ)) → w.slots ≡ later → IfSome task.moving (λ move. move.place + move.length ≤ until) → IsFinishedTo first end later t x
+    finished_to later same fits = record {
       volume = w;
       shown = shown;
       stands = done.volume ∙ shown;
       slots_are = same;
       starts = ap directory_start header ∙ those.starts;
       ends = ap directory_end header ∙ those.ends;
+      outside = subst (λ (d : ℕ). StaysOutside d until t x) those.starts
+          (task_outside n t v is some quiet those.task_is.marked task until x those.task_is may (omega (arith, ap directory_end header)) fits done);
     }
 
     cleared_slots : set v.slots (redo_place v.slots) (unmarked (redo_slot v)) ≡ slots
@@ -86,18 +95,36 @@ module _ (n first end redo : ℕ) (slots : List (List ℕ)) (t : Tape) (v : Volu
     pub mark_left : task.moving ≡ None → IsFinishedTo first end slots t x
     mark_left none = finished_to slots
         (slots_w ∙ ap (λ (move : Option (ℕ × ℕ)). slots_after (finishing_slots v move) v.slots) (subst (IsMarked v) none those.task_is.moving) ∙ cleared_slots)
+        (subst (λ (o : Option Move). IfSome o (λ move. move.place + move.length ≤ until)) (sym none) tt)
 
-    pub file_left : (move : Move) → task.moving ≡ Some move → move.slot < redo → IsFinishedTo first end (slots_finished slots (Some move)) t x
-    file_left move named before =
+    -- the slots may be packed, as slots of a directory that ends before some record
+    pub file_left : (move : Move) → task.moving ≡ Some move → IsFileLeft end redo slots move → (first' end' redo' : ℕ) → MayPack n first' end' redo' slots → IsFileLeft end' redo' slots move
+        → IsFinishedTo first end (slots_finished slots (Some move)) t x
+    file_left move named file first' end' redo' pack file' =
+        let later : List (List ℕ) = slots_finished slots (Some move) in
+        let before : move.slot < redo = file.before in
         let marked = subst (IsMarked v) named those.task_is.moving in
         let i : ℕ = marked.0 in
         let at_file = marked.3 in
         let off : i ≡ redo_place v.slots → ⊥ = λ e. absurd (omega (arith, e, before, at_file.slot, those.redo_is)) in
         let here : get_or slots i [] ≡ get_or v.slots i [] = ap (λ (xs : List (List ℕ)). get_or xs i []) (sym cleared_slots) ∙ get_or-set_other v.slots (redo_place v.slots) i (unmarked (redo_slot v)) [] off in
-        finished_to (slots_finished slots (Some move))
-        (slots_w ∙ ap (λ (m : Option (ℕ × ℕ)). slots_after (finishing_slots v m) v.slots) marked.2
+        let slots_are : w.slots ≡ later =
+        slots_w ∙ ap (λ (m : Option (ℕ × ℕ)). slots_after (finishing_slots v m) v.slots) marked.2
         ∙ sym (λ q. set (sym cleared_slots q) i (with_start (at_file.place q) (here q)))
-        ∙ sym (ap (λ (k : ℕ). set slots k (with_start move.place (get_or slots k []))) at_file.slot))
+        ∙ sym (ap (λ (k : ℕ). set slots k (with_start move.place (get_or slots k []))) at_file.slot) in
+        let redo_is : redo_place w.slots ≡ redo' = ap redo_place slots_are ∙ (file_may n first' end' redo' slots pack move file').redo_is in
+        let counted : live_records (take (redo_place w.slots) w.slots) ≡ live_records (take redo' later) = λ q. live_records (take (redo_is q) (slots_are q)) in
+        let fits : move.place + move.length ≤ until = omega (
+          arith,
+          (file_front n first' end' redo' slots pack move file').next,
+          live_grows later (move.slot + 1) redo' (omega (arith, file'.before)),
+          counted,
+          ap directory_end header,
+          those.ends,
+          file.placed.next,
+          file'.placed.next,
+        ) in
+        finished_to later slots_are (subst (λ (o : Option Move). IfSome o (λ move. move.place + move.length ≤ until)) (sym named) fits)
 
 -- ---- how many records are read and written
 
@@ -112,17 +139,6 @@ left_within n end redo place slots (Some task) with_it low below front = by task
         → calls_to_finish moving + 15 * (redo_start Two n - place) ≤ 15 * (redo_start Two n - end) + 9
     by None may is front = omega (arith, low, below)
     by (Some move) may is front = omega (arith, low, below, front, is.some, is.placed.next, may.part)
-
--- fewer files have fewer records
-live_grows : (xs : List (List ℕ)) (k m : ℕ) → k ≤ m → live_records (take k xs) ≤ live_records (take m xs)
-live_grows [] zero zero le = omega arith
-live_grows [] zero (suc m) le = omega arith
-live_grows [] (suc k) zero le = absurd (omega (arith, le))
-live_grows [] (suc k) (suc m) le = omega arith
-live_grows (x ∷ xs) zero zero le = omega arith
-live_grows (x ∷ xs) zero (suc m) le = omega arith
-live_grows (x ∷ xs) (suc k) zero le = absurd (omega (arith, le))
-live_grows (x ∷ xs) (suc k) (suc m) le = omega (arith, live_grows xs k m (omega (arith, le)))
 
 -- the files that stand at their places reach as far as one that was finished
 front_reaches : (end redo front place : ℕ) (held slots : List (List ℕ)) (task : Option Task) (n : ℕ) → IsTaskWith n end redo held task
@@ -181,10 +197,12 @@ module _ (n first end redo : ℕ) (slots : List (List ℕ)) (may : MayPack n fir
       by None none = (may, tt)
       by (Some move) is = (file_may n first end redo slots may move is, file_front n first end redo slots may move is)
 
-pub task_finished : (n first end redo : ℕ) (slots : List (List ℕ)) (t : Tape) (v : Volume) → IsTape n t → volume_of t ≡ Some v → (task : Task) → IsTaskWith n end redo slots (Some task)
+pub task_finished : (n first end redo : ℕ) (slots : List (List ℕ)) (t : Tape) (v : Volume) → IsTape n t → volume_of t ≡ Some v → IsSettled t → (task : Task) → IsTaskWith n end redo slots (Some task)
+    → (first' end' redo' : ℕ) → MayPack n first' end' redo' slots → IsTaskWith n end' redo' slots (Some task)
     → AreThoseOf n first end redo (Some task) slots v → (x : Tape) → IsFinished t x → IsFinishedTo first end (slots_finished slots task.moving) t x
-task_finished n first end redo slots t v is some task with_it those x done = by task.moving refl with_it.1
+task_finished n first end redo slots t v is some quiet task with_it first' end' redo' pack with_it' those x done = by task.moving refl with_it.1 with_it'.1
   where
-    by : (moving : Option Move) → task.moving ≡ moving → IfSome moving (IsFileLeft end redo slots) → IsFinishedTo first end (slots_finished slots moving) t x
-    by None none with_none = mark_left n first end redo slots t v is some task those x done none
-    by (Some move) named file = file_left n first end redo slots t v is some task those x done move named file.before
+    by : (moving : Option Move) → task.moving ≡ moving → IfSome moving (IsFileLeft end redo slots) → IfSome moving (IsFileLeft end' redo' slots)
+        → IsFinishedTo first end (slots_finished slots moving) t x
+    by None none with_none with_none' = mark_left n first end redo slots t v is some quiet task with_it.0 those x done none
+    by (Some move) named file file' = file_left n first end redo slots t v is some quiet task with_it.0 those x done move named file first' end' redo' pack file'

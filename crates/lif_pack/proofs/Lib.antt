@@ -10,6 +10,7 @@ pub mod Filtering
 pub mod PackedVolume
 pub mod Packs
 pub mod Walking
+pub mod Outside
 pub mod Marking
 pub mod Carrying
 pub mod MovedParts
@@ -22,6 +23,7 @@ pub mod Agreeing
 pub mod Stopped
 pub mod MovedVolume
 pub mod Keeping
+pub mod Counted
 pub mod Placing
 pub mod Refused
 pub mod ClosedVolume
@@ -32,13 +34,13 @@ pub mod ClosedShown
 pub mod SetAside
 pub mod SamePacked
 pub mod Swapping
-pub mod Counted
 pub mod Consulting
 pub mod Reslotted
 pub mod Ended
 pub mod Plain
 pub mod PackedLive
 pub mod Cleared
+pub mod Beyond
 pub mod Held
 pub mod RefusedFinished
 pub mod PackedTape

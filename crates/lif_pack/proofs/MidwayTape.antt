@@ -19,7 +19,7 @@ use Rattle.lif_model.specs.Packing.{unmarked, live_records, finished_volume_of, 
 use Rattle.lif_pack.specs.declared.marks.Move.{Move}
 use Rattle.lif_pack.specs.Marks.{IsMoveAt}
 use Rattle.lif_pack.specs.Moving.{with_mark, MayMove, IsMidway, HasMoved}
-use Rattle.lif_pack.specs.Tasks.{IsFinished}
+use Rattle.lif_model.specs.Finished.{IsFinished}
 use Rattle.lif_pack.proofs.Order.{CanMove, above_directory}
 use Rattle.lif_pack.proofs.Finishing.{redo_here}
 use Rattle.lif_pack.proofs.FinishedTape.{redo_stands, moved_is_finished}

@@ -1,18 +1,24 @@
 -- The steps of a packing, one after the other: the tape has what packing makes of the volume.
-use Rattle.std.proofs.Common.{filter, ◌≡◌, ℕ, List, true, false, Option, Some, None, unwrap_or, length, take, refl, sym, ◌∙◌, ap, subst}
+use Rattle.std.proofs.Common.{filter, ◌≡◌, ◌+◌, ℕ, List, true, false, Option, Some, None, unwrap_or, length, take, refl, sym, ◌∙◌, ap, subst, arith}
 use Rattle.lif_model.specs.Tape.{Tape, IsTape}
 use Rattle.lif_model.specs.declared.version.Version.TheVariants.{Two}
-use Rattle.lif_model.specs.Redo.{settled}
+use Rattle.lif_model.specs.Header.{directory_start}
+use Rattle.lif_model.specs.Redo.{settled, IsSettled}
+use Rattle.lif_model.specs.Fit.{redo_place}
 use Rattle.lif_model.specs.Legal.{is_live}
 use Rattle.lif_model.specs.Volume.{Volume, is_adopted_with, volume_in, volume_of}
 use Rattle.lif_model.specs.Apply.{is_upgraded}
 use Rattle.lif_model.proofs.Directory.{volume_is}
 use Rattle.lif_model.proofs.Redo.{settled_twice}
-use Rattle.lif_model.specs.Packing.{is_in_order, are_packed, bears_mark, has_mark, finished_volume_of, pack_refusal, packed}
+use Rattle.lif_model.specs.Packing.{is_in_order, are_packed, live_records, packed_start, bears_mark, has_mark, finished_volume_of, pack_refusal, packed}
 use Rattle.lif_pack.specs.Steps.{AreLive, MayPack, HasSlotsOf, ArePackedAlike}
 use Rattle.lif_pack.specs.declared.pack.Packed.{Packed}
 use Rattle.lif_pack.specs.declared.tasks.Task.{Task}
-use Rattle.lif_pack.specs.Packs.{AreThoseOf, IsPackedOn, IsPacking, IsFinishedTo}
+use Rattle.lif_pack.specs.Packs.{AreThoseOf, IsPacking, IsFinishedTo}
+use Rattle.lif_model.specs.Finished.{IsPackedOn, StaysOutside}
+use Rattle.lif_pack.proofs.Counted.{files_kept}
+use Rattle.lif_pack.proofs.Outside.{outside_then, outside_wider}
+use Rattle.lif_pack.proofs.Placing.{slots_then}
 use Rattle.lif_pack.proofs.Agreeing.{settles_finished}
 use Rattle.lif_pack.proofs.Finishes.{unmarked_volume}
 use Rattle.lif_pack.proofs.Held.{held_same}
@@ -29,7 +35,7 @@ module _ (n first end redo : ℕ) (held slots : List (List ℕ)) (t x : Tape) (f
       → (y u : Tape) → HasSlotsOf first end held slots x y → HasSlotsOf first end slots (filter is_live slots) y u → volume_of u ≡ Some (packed n finished.volume)
   packed_after may are alike y u moved closed =
       let there : volume_of u ≡ Some (record w { slots = filter is_live slots }) =
-      closed (record w { slots = slots }) (moved w finished.stands finished.slots_are finished.starts finished.ends) refl finished.starts finished.ends in
+      closed.volume (record w { slots = slots }) (moved.volume w finished.stands finished.slots_are finished.starts finished.ends) refl finished.starts finished.ends in
       let makes : record w { slots = filter is_live slots } ≡ packed n w =
       sym (packed_is_live n first end redo slots may are w finished.ends) ∙ alike w finished.ends ∙ sym (λ i. packed n (record w { slots = finished.slots_are i })) in
       there ∙ ap (λ (v : Volume). Some v) makes
@@ -57,6 +63,17 @@ module _ (n first end redo : ℕ) (held slots : List (List ℕ)) (t x : Tape) (f
       let volume = volume_is n x w is finished.stands in
       record { volume = packed n w; has = after; unmarked = (packed_is_upgraded n w volume up in_order).1; same = packed_again n w volume up in_order }
 
+  -- the records outside the directory and the packed files stay
+  pub packed_outside : IsSettled t → MayPack n first end redo held → MayPack n first end redo slots → ArePackedAlike n end held slots
+      → (y u : Tape) → HasSlotsOf first end held slots x y → HasSlotsOf first end slots (filter is_live slots) y u
+      → StaysOutside (directory_start finished.volume.header) (packed_start finished.volume (redo_place finished.volume.slots)) (settled t) u
+  packed_outside quiet was now alike y u moved closed =
+      let until : ℕ = packed_start w (redo_place w.slots) in
+      let both = slots_then first end held slots (filter is_live slots) x y u (files_kept n first end redo redo held slots was now alike) moved closed in
+      let counted = ap (λ (xs : List (List ℕ)). live_records (take (redo_place xs) xs)) finished.slots_are in
+      let to_u = outside_then first until until t x u (omega arith) finished.outside (outside_wider first (end + live_records (take (redo_place held) held)) until x u (omega (arith, counted, finished.ends)) both.outside) in
+      subst (λ (z : Tape). StaysOutside (directory_start w.header) until z u) (sym quiet) (subst (λ (d : ℕ). StaysOutside d until t u) (sym finished.starts) to_u)
+
 -- a packing of the settled tape is one of the tape
 pub packing_of : (n : ℕ) (t u : Tape) (answer : Packed) → IsPacking n (settled t) u answer → IsPacking n t u answer
 packing_of n t u answer is = record {
@@ -67,6 +84,7 @@ packing_of n t u answer is = record {
   shown_after = is.shown_after;
   is_packed = is.is_packed;
   is_settled = is.is_settled;
+  outside = subst (λ (z : Tape). StaysOutside (directory_start is.volume.header) (packed_start is.volume (redo_place is.volume.slots)) z u) (settled_twice t) is.outside;
   files = is.files;
   free = is.free;
 }

@@ -22,7 +22,8 @@ use Rattle.lif_model.proofs.Named.{file_from}
 use Rattle.lif_model.specs.Packing.{rises, is_in_order, live_records, are_packed, redo_slot, marked_slot, marked_count, unmarked, bears_mark, without_start, files_shown, packed_from, packed}
 use Rattle.lif_pack.specs.Steps.{AreLive}
 use Rattle.lif_pack.proofs.Entries.{unmarked_size, unmarked_name, unmarked_type, unmarked_start, unmarked_length, unmarked_slot, unmarked_count, unmarked_redo}
-use Rattle.lif_pack.proofs.Order.{rise, packed_within}
+use Rattle.lif_pack.proofs.Order.{rise, packed_within, live_whole}
+use Rattle.lif_pack.proofs.Walking.{live_append}
 use Rattle.lif_pack.proofs.Finishing.{upgraded_is_adopted, redo_here, redo_is_two, clear_of, live_alike}
 use Rattle.lif_pack.proofs.Filtering.{filter_at, filter_fewer, filter_all}
 use Rattle.lif_pack.proofs.MovedVolume.{unmarked_same}
@@ -147,6 +148,12 @@ module _ (n : ℕ) (v : Volume) (is : IsVolume n v) (up : is_upgraded n v ≡ tr
 
   are : (are_packed low front ≡ true) × (live_records front ≡ live_records files)
   are = packed_are low files sizes (λ k lt. (file_slot k lt).live)
+
+  -- the slots that packing makes have the records of the files, and those of the redo file
+  pub packed_records : live_records (packed_from (directory_end v.header) (filter (is_file n) v.slots) ++ unmarked (redo_slot v) ∷ []) ≡ live_records (filter (is_file n) v.slots) + redo_length Two
+  packed_records =
+      let tells = redo_entry_tells n Two last last_is_redo in
+      omega (arith, live_append front last, are.1, live_whole last (redo_file_is_live n last tells.0), tells.3)
 
   -- they have room before the redo file
   pub files_have_room : low + live_records files ≤ redo_start Two n

@@ -22,7 +22,9 @@ use Rattle.lif_pack.specs.Tasks.{KeepsFiles}
 use Rattle.lif_pack.specs.Steps.{volume_with, HasPlainStart, MayPack, ArePlaced, OfSlots, HasSlotsOf, ArePackedAlike, MayStillPack, TapeHasSlots}
 use Rattle.lif_pack.proofs.Entries.{started_size, started_name, started_type, started_start, started_length, started_again}
 use Rattle.lif_pack.proofs.Order.{CanMove, standing, rise, live_before_redo, live_whole, others_clear}
-use Rattle.lif_pack.proofs.Walking.{live_more, packed_more, purged_all}
+use Rattle.lif_pack.proofs.Walking.{live_grows, live_more, packed_more, purged_all}
+use Rattle.lif_pack.proofs.Counted.{files_kept}
+use Rattle.lif_pack.proofs.Outside.{outside_moved, outside_same, outside_then, outside_wider}
 use Rattle.lif_pack.proofs.Slotting.{MayStand, set_is_volume}
 use Rattle.lif_pack.proofs.Finishing.{redo_here, redo_is_two, other_is_file, clear_of, upgraded_is_adopted}
 use Rattle.lif_pack.proofs.Refused.{may_never}
@@ -290,12 +292,24 @@ module _ (n first end redo : ℕ) (slots : List (List ℕ)) (may : MayPack n fir
 
     pub moved_slots : (t x : Tape) (move : Move) → IsTape n t → IsSettled t → IsSettled x → move.slot ≡ i → move.place ≡ place → move.start ≡ start_of slot → move.length ≡ length_of slot
         → move.moved ≡ 0 → HasMoved first move.place redo move t x → HasSlotsOf first end slots (set slots i (with_start place (get_or slots i []))) t x
-    moved_slots t x move is quiet quiet_x slot_is place_is start_is long_is none has v some same starts ends =
-        let some0 : volume_of t ≡ Some (v0 v same ends move slot_is place_is start_is long_is none) = some ∙ (λ q. Some (record v { slots = same q })) in
-        moved_volume n t _ is some0 quiet may.version may.unmarked i (can0 v same ends move slot_is place_is start_is long_is none) move
-        (at_file v same ends move slot_is place_is start_is long_is none) x quiet_x
-        (subst (λ (r : ℕ). HasMoved (directory_start v.header) move.place r move t x) (sym may.redo_is) (subst (λ (d : ℕ). HasMoved d move.place redo move t x) (sym starts) has))
-        ∙ ap (λ (p : ℕ). Some (record v { slots = set slots i (with_start p slot) })) (start0 v same ends move slot_is place_is start_is long_is none)
+    moved_slots t x move is quiet quiet_x slot_is place_is start_is long_is none has = record {
+      volume = stands_so;
+      outside = outside_wider first (move.place + move.length) (end + live_records (take (redo_place slots) slots)) t x reach (outside_moved first redo move t x starts_below has);
+    }
+      where
+        starts_below : first ≤ move.place
+        starts_below = omega (arith, low, place_is, may.starts, may.ends)
+
+        reach : move.place + move.length ≤ end + live_records (take (redo_place slots) slots)
+        reach = omega (arith, placed.next, place_is, long_is, live_more slots i here, live_whole slot live, live_grows slots (i + 1) (redo_place slots) (omega (arith, before, may.redo_is)))
+
+        stands_so : OfSlots first end slots t (λ v. volume_of x ≡ Some (record v { slots = set slots i (with_start place (get_or slots i [])) }))
+        stands_so v some same starts ends =
+            let some0 : volume_of t ≡ Some (v0 v same ends move slot_is place_is start_is long_is none) = some ∙ (λ q. Some (record v { slots = same q })) in
+            moved_volume n t _ is some0 quiet may.version may.unmarked i (can0 v same ends move slot_is place_is start_is long_is none) move
+            (at_file v same ends move slot_is place_is start_is long_is none) x quiet_x
+            (subst (λ (r : ℕ). HasMoved (directory_start v.header) move.place r move t x) (sym may.redo_is) (subst (λ (d : ℕ). HasMoved d move.place redo move t x) (sym starts) has))
+            ∙ ap (λ (p : ℕ). Some (record v { slots = set slots i (with_start p slot) })) (start0 v same ends move slot_is place_is start_is long_is none)
 
     -- a stop leaves the files as they were
     pub move_keeps : (t y : Tape) (move : Move) → IsTape n t → IsSettled t → move.slot ≡ i → move.place ≡ place → move.start ≡ start_of slot → move.length ≡ length_of slot
@@ -396,14 +410,23 @@ module _ (n first end redo : ℕ) (slots : List (List ℕ)) (may : MayPack n fir
 -- ---- one step after the other
 
 pub same_slots_of : (first end : ℕ) (slots : List (List ℕ)) (t : Tape) → HasSlotsOf first end slots slots t t
-same_slots_of first end slots t v some same starts ends = some ∙ (λ q. Some (record v { slots = same q }))
+same_slots_of first end slots t = record {
+  volume = λ v some same starts ends. some ∙ (λ q. Some (record v { slots = same q }));
+  outside = outside_same first (end + live_records (take (redo_place slots) slots)) t;
+}
 
 pub slots_keep : (n first end redo : ℕ) (slots : List (List ℕ)) (t : Tape) → MayPack n first end redo slots → IsTape n t → IsSettled t → OfSlots first end slots t (λ v. KeepsFiles n t t)
 slots_keep n first end redo slots t may is quiet v some same starts ends =
     keeps_itself n t (record v { slots = slots }) is (some ∙ (λ q. Some (record v { slots = same q }))) quiet may.version
 
-pub slots_then : (first end : ℕ) (a b c : List (List ℕ)) (t x y : Tape) → HasSlotsOf first end a b t x → HasSlotsOf first end b c x y → HasSlotsOf first end a c t y
-slots_then first end a b c t x y one two v some same starts ends = two (record v { slots = b }) (one v some same starts ends) refl starts ends
+pub slots_then : (first end : ℕ) (a b c : List (List ℕ)) (t x y : Tape) → live_records (take (redo_place b) b) ≡ live_records (take (redo_place a) a)
+    → HasSlotsOf first end a b t x → HasSlotsOf first end b c x y → HasSlotsOf first end a c t y
+slots_then first end a b c t x y kept one two =
+    let until : ℕ = end + live_records (take (redo_place a) a) in
+    record {
+      volume = λ v some same starts ends. two.volume (record v { slots = b }) (one.volume v some same starts ends) refl starts ends;
+      outside = outside_then first until until t x y (omega arith) one.outside (outside_wider first (end + live_records (take (redo_place b) b)) until x y (omega (arith, kept)) two.outside);
+    }
 
 pub end_below : (n first end redo : ℕ) (slots : List (List ℕ)) → MayPack n first end redo slots → end ≤ redo_start Two n
 end_below n first end redo slots may = omega (arith, (ends_before_redo Two n (volume_with may.header slots) may.volume may.version).0, may.ends)
@@ -442,4 +465,4 @@ tape_then n first a b c x y z still one two end redo t may is =
     let mid = still end redo may in
     let was = one end redo t may is in
     let now = two end mid.0 was.0 mid.1 was.1 in
-    (now.0, now.1, slots_then first end a b c t was.0 now.0 was.2 now.2)
+    (now.0, now.1, slots_then first end a b c t was.0 now.0 (files_kept n first end redo mid.0 a b may mid.1 mid.2) was.2 now.2)

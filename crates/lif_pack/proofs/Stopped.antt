@@ -30,7 +30,8 @@ use Rattle.lif_pack.specs.declared.marks.Move.{Move}
 use Rattle.lif_pack.specs.declared.tasks.Task.{Task}
 use Rattle.lif_pack.specs.Marks.{IsMoveAt, IsMarked}
 use Rattle.lif_pack.specs.Moving.{MayMove, IsMidway, HasMoved, IsUnderWay}
-use Rattle.lif_pack.specs.Tasks.{IsTaskOf, IsFinished, IsClearedOrOld, IsLeftToDo, IsShownAs, StaysShown, calls_to_finish}
+use Rattle.lif_pack.specs.Tasks.{IsTaskOf, IsClearedOrOld, IsLeftToDo, IsShownAs, StaysShown, calls_to_finish}
+use Rattle.lif_model.specs.Finished.{IsFinished}
 use Rattle.lif_pack.proofs.MovedParts.{midway_same}
 use Rattle.lif_pack.proofs.MidwayTape.{midway_shows, midway_marked}
 use Rattle.lif_pack.proofs.Tasking.{marked_is_upgraded}

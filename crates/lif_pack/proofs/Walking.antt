@@ -1,5 +1,5 @@
 -- Slots that are gone through one after the other: which of them stand at their places, and which rise.
-use Rattle.std.proofs.Common.{filter, ◌≡◌, ◌⊎◌, ◌<◌, ◌≤◌, ◌+◌, ◌++◌, ◌&&◌, ℕ, List, [], ◌∷◌, Bool, true, false, length, get_or, take, drop, get_or-drop, length-drop, inl, inr, refl, sym, ◌∙◌, ap, arith, ◌-◌}
+use Rattle.std.proofs.Common.{filter, ◌≡◌, ◌⊎◌, ◌<◌, ◌≤◌, ◌+◌, ◌++◌, ◌&&◌, ℕ, zero, suc, List, [], ◌∷◌, Bool, true, false, length, get_or, take, drop, get_or-drop, length-drop, inl, inr, refl, sym, ◌∙◌, ap, arith, ◌-◌}
 use Rattle.std.specs.List.{list_all}
 use Rattle.std.proofs.lemmas.Bool.{and_parts, false_from_ne_true, ltb-true, lt-ltb, cases_eq, not-true}
 use Rattle.std.proofs.lemmas.List.{take_more, take-append-drop, take-take}
@@ -11,7 +11,7 @@ use Rattle.lif_model.specs.Packing.{rises, live_length, live_records, stands_at,
 
 -- ---- places
 
-live_append : (xs : List (List ℕ)) (x : List ℕ) → live_records (xs ++ x ∷ []) ≡ live_records xs + live_length x
+pub live_append : (xs : List (List ℕ)) (x : List ℕ) → live_records (xs ++ x ∷ []) ≡ live_records xs + live_length x
 live_append [] x = omega arith
 live_append (y ∷ xs) x = let rest = live_append xs x in omega (arith, rest)
 
@@ -29,6 +29,17 @@ packed_append place (x ∷ xs) ys =
 -- one slot more
 pub live_more : (xs : List (List ℕ)) (k : ℕ) → k < length xs → live_records (take (k + 1) xs) ≡ live_records (take k xs) + live_length (get_or xs k [])
 live_more xs k lt = ap live_records (take_more xs k [] lt) ∙ live_append (take k xs) (get_or xs k [])
+
+-- fewer files have fewer records
+pub live_grows : (xs : List (List ℕ)) (k m : ℕ) → k ≤ m → live_records (take k xs) ≤ live_records (take m xs)
+live_grows [] zero zero le = omega arith
+live_grows [] zero (suc m) le = omega arith
+live_grows [] (suc k) zero le = absurd (omega (arith, le))
+live_grows [] (suc k) (suc m) le = omega arith
+live_grows (x ∷ xs) zero zero le = omega arith
+live_grows (x ∷ xs) zero (suc m) le = omega arith
+live_grows (x ∷ xs) (suc k) zero le = absurd (omega (arith, le))
+live_grows (x ∷ xs) (suc k) (suc m) le = omega (arith, live_grows xs k m (omega (arith, le)))
 
 pub packed_more : (place : ℕ) (xs : List (List ℕ)) (k : ℕ) → k < length xs
     → are_packed place (take (k + 1) xs) ≡ (are_packed place (take k xs) && stands_at (place + live_records (take k xs)) (get_or xs k []))

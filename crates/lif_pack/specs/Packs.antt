@@ -15,10 +15,12 @@ use Rattle.il_ports.specs.Stores.{RecordsView, RunLeaves}
 use Rattle.lif_volume.specs.declared.fault.VolumeFault.{VolumeFault}
 use Rattle.lif_volume.specs.declared.fault.VolumeFault.TheVariants.{Refused, Trouble as Troubled}
 use Rattle.lif_volume.specs.declared.volume.Listing.{Listing}
+use Rattle.lif_volume.specs.Answers.{IsSettledAs}
 use Rattle.lif_volume.specs.Views.{VolumeView}
 use Rattle.lif_volume.specs.Commands.{IsTold, OnlySettles, WritesBySettling}
-use Rattle.lif_model.specs.Packing.{with_start, redo_slot, unmarked, bears_mark, finished_volume_of}
+use Rattle.lif_model.specs.Packing.{with_start, packed_start, redo_slot, unmarked, finished_volume_of}
 use Rattle.lif_model.specs.Packing.{pack_refusal, packed, files_moved, records_free}
+use Rattle.lif_model.specs.Finished.{IsPackedOn, StaysOutside}
 use Rattle.lif_pack.specs.declared.marks.Move.{Move}
 use Rattle.lif_pack.specs.declared.tasks.Task.{Task}
 use Rattle.lif_pack.specs.declared.pack.Packed.{Packed}
@@ -26,19 +28,11 @@ use Rattle.lif_pack.specs.declared.reading.Readable.{Readable}
 use Rattle.lif_pack.specs.Tasks.{MayFinish, IsTask, KeepsFiles, calls_to_finish}
 use Rattle.lif_pack.specs.Steps.{ArePlaced}
 
--- ---- a volume that is packed already
-
--- the tape has it, no file of it is being moved, and packing makes the same of it
-pub record IsPackedOn (n : ℕ) (t : Tape) : Type 0 where
-  pub volume : Volume
-  pub has : volume_of t ≡ Some volume
-  pub unmarked : bears_mark n volume ≡ false
-  pub same : packed n volume ≡ volume
-
 -- ---- the answer
 
--- The volume that t is finished to was packed: the settled tape u has what packing makes of it, and is packed. The answer
--- counts the files whose start changed, and the records that are free before the redo file.
+-- The volume that t is finished to was packed: the settled tape u has what packing makes of it, and is packed. The
+-- answer counts the files whose start changed, and the records that are free before the redo file. The records outside
+-- the directory and the packed files, and below the redo file, are those of the settled tape.
 pub record IsPacking (n : ℕ) (t u : Tape) (answer : Packed) : Type 0 where
   pub volume : Volume
   pub shown : finished_volume_of t ≡ Some volume
@@ -47,6 +41,8 @@ pub record IsPacking (n : ℕ) (t u : Tape) (answer : Packed) : Type 0 where
   pub shown_after : finished_volume_of u ≡ Some (packed n volume)
   pub is_packed : IsPackedOn n u
   pub is_settled : IsSettled u
+  pub outside : StaysOutside (directory_start volume.header) (packed_start volume (redo_place volume.slots))
+      (settled t) u
   pub files : answer.files ≡ files_moved n volume
   pub free : answer.free ≡ records_free n volume
 
@@ -93,12 +89,18 @@ KeepsFiled view old new = (t : Tape) → IsTold view old t → is_foreign_gated 
 
 -- ---- packing it again
 
--- of a tape whose volume is packed nothing is changed but by settling, and the reads and writes go on by writes of
--- settling alone
+-- If the volume of a tape is packed, nothing is changed except by settling, the reads and writes go on by writes of settling
+-- alone, and after an Ok the tape is the settled one.
 abbrev pub StaysPacked : {R S : Type 0} → (R → RecordsView S) → (old new : VolumeView R)
     → Result Packed VolumeFault → Type 0
 StaysPacked view old new answer = (t : Tape) → IsTold view old t → IsPackedOn (view old.records).record_count t
-    → OnlySettles view old new × WritesBySettling view old new answer
+    → OnlySettles view old new × WritesBySettling view old new answer × IsSettledAs t (view new.records).tape answer
+
+-- a refused packing writes by settling alone
+abbrev pub SettlesRefused : {R S : Type 0} → (R → RecordsView S) → (old new : VolumeView R)
+    → Result Packed VolumeFault → Type 0
+SettlesRefused view old new answer = (why : Refusal) → answer ≡ Err (Refused why)
+    → WritesBySettling view old new answer
 
 -- ---- a volume whose slots, without the mark, are in memory
 
@@ -136,7 +138,8 @@ abbrev pub calls_left_to : Option Task → ℕ
 calls_left_to None = 0
 calls_left_to (Some task) = calls_to_finish task.moving
 
--- the tape x has the volume that t is finished to, and these are its slots
+-- The tape x has the volume that t is finished to, and these are its slots. The records outside the directory and the
+-- places of the files, and below the redo file, are those of t.
 pub record IsFinishedTo (first end : ℕ) (slots : List (List ℕ)) (t x : Tape) : Type 0 where
   pub volume : Volume
   pub shown : finished_volume_of t ≡ Some volume
@@ -144,3 +147,4 @@ pub record IsFinishedTo (first end : ℕ) (slots : List (List ℕ)) (t x : Tape)
   pub slots_are : volume.slots ≡ slots
   pub starts : directory_start volume.header ≡ first
   pub ends : directory_end volume.header ≡ end
+  pub outside : StaysOutside first (packed_start volume (redo_place volume.slots)) t x

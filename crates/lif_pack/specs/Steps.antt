@@ -12,6 +12,7 @@ use Rattle.lif_model.specs.Legal.{is_live, occupies}
 use Rattle.lif_model.specs.Volume.{Volume, IsVolume, volume_of, is_foreign_gated}
 use Rattle.lif_model.specs.Fit.{redo_place}
 use Rattle.lif_model.specs.Apply.{is_upgraded}
+use Rattle.lif_model.specs.Finished.{StaysOutside}
 use Rattle.lif_commit.specs.Staged.{IsStagedAs, AreBefore}
 use Rattle.lif_model.specs.Packing.{is_in_order, live_records, are_packed, bears_mark, packed}
 
@@ -47,8 +48,10 @@ OfSlots first end slots t P = (v : Volume) → volume_of t ≡ Some v → v.slot
     → directory_end v.header ≡ end → P v
 
 -- The tape x has the volume of t with other slots: these in place of those. So the bytes of each file are as they were.
-abbrev pub HasSlotsOf : (first end : ℕ) → (old new : List (List ℕ)) → (t x : Tape) → Type 0
-HasSlotsOf first end old new t x = OfSlots first end old t (λ v. volume_of x ≡ Some (record v { slots = new }))
+-- The records outside the directory and the places of the files, and below the redo file, are those of t.
+pub record HasSlotsOf (first end : ℕ) (old new : List (List ℕ)) (t x : Tape) : Type 0 where
+  pub volume : OfSlots first end old t (λ v. volume_of x ≡ Some (record v { slots = new }))
+  pub outside : StaysOutside first (end + live_records (take (redo_place old) old)) t x
 
 -- packing makes the same of a volume with either of these slots
 abbrev pub ArePackedAlike : (n end : ℕ) → (old new : List (List ℕ)) → Type 0

@@ -4,15 +4,17 @@ use Rattle.std.specs.Prelude.{Option, Some, None, IfSome, is_some, Result, OnOk}
 use Rattle.lif_model.specs.Tape.{Tape, record_at}
 use Rattle.lif_model.specs.Header.{directory_start}
 use Rattle.lif_model.specs.declared.version.Version.TheVariants.{Two}
-use Rattle.lif_model.specs.Redo.{redo_start, settled, IsSettled}
-use Rattle.lif_model.specs.Commit.{SettlesBelow}
+use Rattle.lif_model.specs.Redo.{redo_of, redo_start, settled}
+use Rattle.lif_model.specs.Commit.{IsSettleWrite, SettlesBelow}
 use Rattle.lif_model.specs.Volume.{Volume, volume_of, is_foreign_gated}
 use Rattle.lif_model.specs.Fit.{redo_place}
 use Rattle.lif_model.specs.Writing.{slot_record, entry_from, with_slots}
 use Rattle.il_ports.specs.Stores.{RecordsView, RunLeaves}
+use Rattle.il_ports.specs.Transfers.{AddsOnly}
 use Rattle.lif_volume.specs.Views.{VolumeView}
-use Rattle.lif_volume.specs.Commands.{IsTold, mounting_on}
-use Rattle.lif_model.specs.Packing.{unmarked, bears_mark, has_mark, finished, finished_volume_of, files_shown, repacked}
+use Rattle.lif_volume.specs.Commands.{IsTold, SettlesOnly, mounting_on}
+use Rattle.lif_model.specs.Packing.{unmarked, bears_mark, has_mark, finished_volume_of, files_shown, repacked}
+use Rattle.lif_model.specs.Finished.{IsFinished}
 use Rattle.lif_pack.specs.declared.marks.Move.{Move}
 use Rattle.lif_pack.specs.declared.tasks.Task.{Task}
 use Rattle.lif_pack.specs.Marks.{IsMarked}
@@ -40,16 +42,6 @@ abbrev pub IsTask : ℕ → Volume → Option Task → Type 0
 IsTask n v None = bears_mark n v ≡ false
 IsTask n v (Some task) = IsTaskOf n v task
 
--- The tape u is settled, and has the volume that t is finished to. Where that of t has no mark it is the settled tape;
--- and else the finished one in all records below the redo file, and so in record 0, in the directory and in each file.
-pub record IsFinished (t u : Tape) : Type 0 where
-  pub is_settled : IsSettled u
-  pub records : length u ≡ length t
-  pub plain : has_mark (length t) (volume_of t) ≡ false → u ≡ settled t
-  pub below : (k : ℕ) → k < redo_start Two (length t) → record_at u k ≡ record_at (finished t) k
-  pub volume : volume_of u ≡ finished_volume_of t
-  pub clear : has_mark (length u) (volume_of u) ≡ false
-
 -- The tape t is mounted, and no record more is read or written than a command takes for that. After an Ok the directory
 -- is kept.
 pub record MountsAlone {R S T E : Type 0} (view : R → RecordsView S) (old new : VolumeView R) (t : Tape)
@@ -61,6 +53,14 @@ pub record MountsAlone {R S T E : Type 0} (view : R → RecordsView S) (old new 
 abbrev pub MountsUnmarked : {R S T E : Type 0} → (R → RecordsView S) → (old new : VolumeView R) → Result T E → Type 0
 MountsUnmarked view old new result = (t : Tape) (v : Volume) → IsTold view old t → volume_of t ≡ Some v
     → bears_mark (view old.records).record_count v ≡ false → MountsAlone view old new t result
+
+-- On a tape without a mark nothing is changed except by settling, at any moment and after the call, and the reads and
+-- writes go on by writes of settling alone.
+abbrev pub SettlesUnmarked : {R S T E : Type 0} → (R → RecordsView S) → (old new : VolumeView R) → Result T E → Type 0
+SettlesUnmarked view old new result = (t : Tape) → IsTold view old t
+    → has_mark (view old.records).record_count (volume_of t) ≡ false
+    → SettlesOnly (view old.records) (view new.records) t × AddsOnly (IsSettleWrite (view old.records).record_count (redo_of t))
+    (view old.records).transferred (view new.records).transferred result
 
 -- how many records are read and written at most to carry it out
 abbrev pub calls_to_finish : Option Move → ℕ

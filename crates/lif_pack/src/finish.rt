@@ -3,10 +3,12 @@ ghost use Rattle.std.specs.Prelude.{◌≡◌, ◌<◌, ◌+◌, ◌*◌, ◌^�
 ghost use Rattle.std.specs.Prelude.{Some, None, is_some, IfSome, Ok, OnOk, IfOk, IfErr};
 ghost use Rattle.lif_model.specs.Tape.{Tape};
 ghost use Rattle.lif_model.specs.declared.version.Version.TheVariants.{Two};
-ghost use Rattle.lif_model.specs.Redo.{redo_start, settled, IsSettled};
+ghost use Rattle.lif_model.specs.Commit.{IsSettleWrite};
+ghost use Rattle.lif_model.specs.Redo.{redo_of, redo_start, settled, IsSettled};
 ghost use Rattle.lif_model.specs.Volume.{Volume as VolumeModel, volume_of};
 ghost use Rattle.lif_model.specs.Writing.{slot_record};
 ghost use Rattle.il_ports.specs.Stores.{IsReady, GoesOn, RunLeaves};
+ghost use Rattle.il_ports.specs.Transfers.{AddsOnly};
 ghost use Rattle.lif_dir.specs.Entries.{slot_bytes};
 ghost use Rattle.lif_volume.specs.Views.{IsOpen};
 ghost use Rattle.lif_volume.specs.Seen.{seen};
@@ -14,8 +16,9 @@ ghost use Rattle.lif_volume.specs.Commands.{IsReadyFor, IsTold, OnlySettles};
 ghost use Rattle.lif_volume.specs.Changing.{SettlesForeign};
 ghost use Rattle.lif_model.specs.Packing.{bears_mark};
 ghost use Rattle.lif_pack.specs.Packers.{IsPackerFor};
-ghost use Rattle.lif_pack.specs.Tasks.{MayFinish, IsTaskOf, IsFinished, IsCleared, IsClearedOrOld, IsLeftToDo};
-ghost use Rattle.lif_pack.specs.Tasks.{MountsAlone, MountsUnmarked, calls_to_finish};
+ghost use Rattle.lif_pack.specs.Tasks.{MayFinish, IsTaskOf, IsCleared, IsClearedOrOld, IsLeftToDo};
+ghost use Rattle.lif_model.specs.Finished.{IsFinished};
+ghost use Rattle.lif_pack.specs.Tasks.{MountsAlone, MountsUnmarked, SettlesUnmarked, calls_to_finish};
 ghost use Rattle.lif_pack.specs.Tasks.{IsShownAs, KeepsShown};
 
 use crate::marks::mark_of;
@@ -48,6 +51,7 @@ impl Packer {
         ensures foreign { SettlesForeign R.view (seen volume.old) (seen volume.new) }
         // A tape without a mark is mounted, and nothing more is read or written. After an error no directory is kept.
         ensures mounts { MountsUnmarked R.view (seen volume.old) (seen volume.new) result }
+        ensures writes { SettlesUnmarked R.view (seen volume.old) (seen volume.new) result }
         ensures forgets { IfErr result (λ _. (seen volume.new).kept ≡ None) }
         // Where the directory is kept and its redo entry has no mark, nothing is done.
         ensures still { IfSome (seen volume.old).kept (λ _. (v : VolumeModel)
@@ -76,6 +80,7 @@ impl Packer {
         ensures shown { KeepsShown R.view (seen volume.old) (seen volume.new) }
         ensures foreign { SettlesForeign R.view (seen volume.old) (seen volume.new) }
         ensures mounts { MountsUnmarked R.view (seen volume.old) (seen volume.new) result }
+        ensures writes { SettlesUnmarked R.view (seen volume.old) (seen volume.new) result }
         ensures forgets { IfErr result (λ _. (seen volume.new).kept ≡ None) }
     {
         match left_of(volume, size)? {
@@ -163,6 +168,9 @@ fn left_of<R: Records>(volume: &mut Volume<R>, size: u16) -> Result<Option<Task>
     ensures shown { KeepsShown R.view (seen volume.old) (seen volume.new) }
     ensures mounts { (t : Tape) (v : VolumeModel) → IsTold R.view (seen volume.old) t → volume_of t ≡ Some v
         → MountsAlone R.view (seen volume.old) (seen volume.new) t result }
+    ensures writes { (t : Tape) → IsTold R.view (seen volume.old) t
+        → AddsOnly (IsSettleWrite (R.view (seen volume.old).records).record_count (redo_of t))
+        (R.view (seen volume.old).records).transferred (R.view (seen volume.new).records).transferred result }
     ensures forgets { IfErr result (λ _. (seen volume.new).kept ≡ None) }
 {
     match volume.dir() {

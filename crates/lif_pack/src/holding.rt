@@ -10,7 +10,8 @@ ghost use Rattle.lif_dir.specs.Entries.{entry_bytes, slot_bytes, is_entry};
 ghost use Rattle.lif_model.specs.Packing.{unmarked};
 ghost use Rattle.lif_pack.specs.Packers.{slots_held};
 ghost use Rattle.lif_pack.specs.Steps.{MayPack, ArePlaced};
-ghost use Rattle.lif_pack.specs.Tasks.{IsTaskOf, IsFinished, IsShownAs, KeepsFiles, calls_to_finish};
+ghost use Rattle.lif_pack.specs.Tasks.{IsTaskOf, IsShownAs, KeepsFiles, calls_to_finish};
+ghost use Rattle.lif_model.specs.Finished.{IsFinished};
 ghost use Rattle.lif_pack.specs.Packs.{IsTaskWith, AreThoseOf, IsFinishedTo, slots_finished, calls_left_to};
 
 use crate::memory::Packer;

@@ -16,7 +16,7 @@ ghost use Rattle.lif_volume.specs.Seen.{seen};
 ghost use Rattle.lif_pack.specs.Packers.{IsPackerFor, slots_held};
 ghost use Rattle.lif_pack.specs.Steps.{AreLive, MayPack, TapeHasSlots, OfSlots};
 ghost use Rattle.lif_pack.specs.Tasks.{KeepsFiles};
-ghost use Rattle.lif_pack.specs.Packs.{IsPacking, AnswersPack, KeepsFiled, StaysPacked, pack_refusals};
+ghost use Rattle.lif_pack.specs.Packs.{IsPacking, AnswersPack, KeepsFiled, StaysPacked, SettlesRefused, pack_refusals};
 ghost use Rattle.lif_pack.specs.Packs.{IsTaskWith, AreThoseOf};
 
 use crate::counting::{files_moved, records_free};
@@ -69,8 +69,9 @@ impl Packer {
         // tape whose gate record a file holds that is not ours nothing is changed but by settling.
         ensures files { KeepsFiled R.view (seen volume.old) (seen volume.new) }
         ensures foreign { SettlesForeign R.view (seen volume.old) (seen volume.new) }
-        // A volume that is packed is not written again: only settling writes.
+        // A volume that is packed is not written again: only settling writes, and the tape is the settled one.
         ensures again { StaysPacked R.view (seen volume.old) (seen volume.new) result }
+        ensures refusal { SettlesRefused R.view (seen volume.old) (seen volume.new) result }
     {
         let read = self.read(volume);
         // The directory is forgotten, also where it is refused: it may have a mark.

@@ -1,7 +1,9 @@
 use Rattle.std.proofs.Common.{◌≡◌, ◌+◌, ◌∙◌, ℕ, ap, map, sym, subst, arith}
 use Rattle.std.specs.Prelude.{Some, Err, IfSome}
 use Rattle.lif_model.specs.Tape.{IsTape}
-use Rattle.lif_model.specs.Redo.{settled}
+use Rattle.lif_model.specs.Redo.{redo_of, settled}
+use Rattle.lif_model.specs.Commit.{IsSettleWrite}
+use Rattle.il_ports.specs.Transfers.{AddsOnly}
 use Rattle.il_ports.proofs.Stores.{goes_within}
 use Rattle.lif_commit.proofs.Staging.{goes_told}
 use Rattle.lif_plan.specs.Directories.{IsLegalDirectory}
@@ -78,3 +80,11 @@ returns-in-Err-Trouble-clause-mounts g c t v is some = record { few = c.in-Err-T
 pub returns-in-Err-Trouble-clause-forgets : goal.returns-in-Err-Trouble-clause-forgets
 returns-in-Err-Trouble-clause-forgets g c =
     none_from c.dir.new.self.kept (c.in-Err-Trouble.ensures.did.consults.kept ∙ ap (λ (fault : VolumeFault). keeps {T = Listing} (Err fault)) c.in-Err-Trouble.field-0-is)
+
+pub returns-in-Ok-clause-writes : goal.returns-in-Ok-clause-writes
+returns-in-Ok-clause-writes g c t is = c.in-Ok.ensures.did.transfers t is
+
+pub returns-in-Err-Refused-clause-writes : goal.returns-in-Err-Refused-clause-writes
+returns-in-Err-Refused-clause-writes g c t is =
+    subst (λ (fault : VolumeFault). AddsOnly (IsSettleWrite (g.R.Records.view c.args.volume.now.records).record_count (redo_of t)) (g.R.Records.view c.args.volume.now.records).transferred
+    (g.R.Records.view c.dir.new.self.records).transferred (store_answer {T = Listing} (Err fault))) c.in-Err-Refused.field-0-is (c.in-Err-Refused.ensures.did.transfers t is)

@@ -56,4 +56,4 @@ returns-clause-stops g c t is end redo may v some same starts ends =
     let size : (g.R.Records.view c.close_up.new.records).record_count ≡ n = done.goes_on.continues.size in
     kept_further (g.R.Records.view c.args.records.now) (g.R.Records.view c.close_up.new.records) (g.R.Records.view c.end_directory.new.records) n t mid.0 (g.met.R.Records.is_store _) mid.1 first
     (subst (λ (m : ℕ). RunLeaves (g.R.Records.view c.close_up.new.records) (g.R.Records.view c.end_directory.new.records) (KeepsFiles m mid.0)) size
-    (c.end_directory.ensures.stops mid.0 (record v { slots = slots_held c.close_up.new.self }) mid.1 (mid.2 v some same starts ends) refl starts))
+    (c.end_directory.ensures.stops mid.0 (record v { slots = slots_held c.close_up.new.self }) mid.1 (mid.2.volume v some same starts ends) refl starts))

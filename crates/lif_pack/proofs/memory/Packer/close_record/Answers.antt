@@ -9,6 +9,7 @@ use Rattle.il_ports.proofs.Stores.{goes_further, goes_within, quiet_run}
 use Rattle.lif_commit.proofs.Staging.{goes_told}
 use Rattle.lif_pack.specs.Packers.{slots_held}
 use Rattle.lif_pack.specs.Steps.{HasSlotsOf}
+use Rattle.lif_pack.proofs.Beyond.{closed_outside}
 use Rattle.lif_pack.proofs.Placing.{same_slots_of}
 use Rattle.lif_pack.proofs.ClosedTape.{closed_changes, closed_stands, closed_stops, closed_not_yet, closed_none}
 use Rattle.lif_pack.proofs.ClosedSlots.{closed_still}
@@ -66,10 +67,13 @@ returns-in_ok-commit-clause-closes g c end redo t may is =
     let stands = c.in_ok-commit.ensures.done t brought in (
       stands.0,
       stands.1,
-      λ v some same starts ends.
-          closed_stands n c.args.first end redo old may (slots_held c.stage_closed.new.self) done.live done.long done.staged.0
-          done.staged.2 done.staged.3 t ((g.met.R.Records.is_store _).is_tape t is) (c.requires.settled t is) v some same starts stands.0
-          (subst (λ (cs : Changes). IsCommitted Two cs t stands.0) changes stands.2),
+      record {
+        volume = λ v some same starts ends.
+            closed_stands n c.args.first end redo old may (slots_held c.stage_closed.new.self) done.live done.long done.staged.0
+            done.staged.2 done.staged.3 t ((g.met.R.Records.is_store _).is_tape t is) (c.requires.settled t is) v some same starts stands.0
+            (subst (λ (cs : Changes). IsCommitted Two cs t stands.0) changes stands.2);
+        outside = closed_outside n c.args.first end redo old may t stands.0 ((g.met.R.Records.is_store _).is_tape t is) done.staged.0 c.deref.result.now done.staged.2 changes stands.2;
+      },
     )
 
 pub returns-in_ok-commit-clause-stops : goal.returns-in_ok-commit-clause-stops

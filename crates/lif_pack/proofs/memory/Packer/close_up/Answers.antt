@@ -55,7 +55,7 @@ returns-in_err-front-clause-stops g c = λ end redo t v may is some same starts 
     let mid = slots_held c.loop-i.self in
     let now = inv.closes end redo t may is in
     follows _ _ _ _ _ _ _ _ (inv.stops end redo t v may is some same starts ends)
-    (done.stops now.0 (record v { slots = mid }) now.1 (now.2 v some same starts ends) refl starts)
+    (done.stops now.0 (record v { slots = mid }) now.1 (now.2.volume v some same starts ends) refl starts)
     (λ y left. closed_keeps n c.args.first end redo old may t v some same mid (slots_held c.close_record.new.self) inv.live (done.live ∙ inv.live) y left)
 
 pub loop-i-preserved : goal.loop-i-preserved
@@ -89,7 +89,7 @@ loop-i-preserved g c =
       stops = λ end redo t v may is some same starts ends.
           let now = inv.closes end redo t may is in
           follows _ _ _ _ _ _ _ _ (inv.stops end redo t v may is some same starts ends)
-          (done.stops now.0 (record v { slots = mid }) now.1 (now.2 v some same starts ends) refl starts)
+          (done.stops now.0 (record v { slots = mid }) now.1 (now.2.volume v some same starts ends) refl starts)
           (λ y left. closed_keeps n c.args.first end redo old may t v some same mid later inv.live (done.live ∙ inv.live) y left);
     }
 

@@ -1,6 +1,6 @@
-use Rattle.std.proofs.Common.{◌≡◌, ◌<◌, ◌+◌, ◌*◌, ◌∙◌, ℕ, [], ◌∷◌, length, map, take, sym, ap, subst, arith}
+use Rattle.std.proofs.Common.{◌≡◌, ◌<◌, ◌+◌, ◌*◌, ◌∙◌, ℕ, List, [], ◌∷◌, length, map, take, sym, ap, subst, arith}
 use Rattle.std.specs.Prelude.{Some}
-use Rattle.std.proofs.lemmas.List.{length-map, take-map}
+use Rattle.std.proofs.lemmas.List.{length-map, take_all, take-map}
 use Rattle.lif_model.specs.declared.version.Version.TheVariants.{Two}
 use Rattle.lif_model.specs.Redo.{Changes}
 use Rattle.lif_model.specs.Commit.{AreChanges}
@@ -13,6 +13,9 @@ use Rattle.lif_commit.proofs.Staging.{goes_told}
 use Rattle.lif_dir.specs.Entries.{slot_bytes}
 use Rattle.lif_dir.specs.Tables.{Table}
 use Rattle.lif_pack.specs.Packers.{slots_held}
+use Rattle.lif_pack.proofs.Beyond.{ended_outside}
+use Rattle.lif_pack.specs.Steps.{HasSlotsOf}
+use Rattle.lif_pack.proofs.Placing.{same_slots_of}
 use Rattle.lif_pack.proofs.Keeping.{keeps_itself}
 use Rattle.lif_pack.proofs.Ended.{ended_changes, ended_stands, ended_keeps}
 use Rattle.lif_pack.proofs.memory.Packer.end_directory.Goals as goal
@@ -62,6 +65,12 @@ returns-clause-slots g c =
     ap (λ (t : Table). map slot_bytes t.slots) c.truncate.ensures ∙ sym (take-map slot_bytes c.args.count c.bring_end.new.self.slots.slots)
     ∙ ap (λ (t : Table). take c.args.count (map slot_bytes t.slots)) c.in_ok-bring_end.ensures.still
 
+pub returns-then-count-len-clause-ends : goal.returns-then-count-len-clause-ends
+returns-then-count-len-clause-ends g c end redo t may is =
+    let old = slots_held c.args.self.now in
+    let all : take c.args.count old ≡ old = take_all c.args.count old (omega (arith, c.if-count-len.true, c.len.ensures.count, length-map c.args.self.now.slots.slots slot_bytes)) in
+    (t, is, subst (λ (xs : List (List ℕ)). HasSlotsOf c.args.first end old xs t t) (sym all) (same_slots_of c.args.first end old t))
+
 pub returns-clause-ends : goal.returns-clause-ends
 returns-clause-ends g c end redo t may is =
     let n : ℕ = (g.R.Records.view c.args.records.now).record_count in
@@ -73,8 +82,11 @@ returns-clause-ends g c end redo t may is =
     let stands = c.in_ok-commit.ensures.done t brought in (
       stands.0,
       stands.1,
-      λ v some same starts ends.
-          ended_stands n c.args.first end redo old may c.args.count c.requires.gap less t ((g.met.R.Records.is_store _).is_tape t is) (c.requires.settled t is) v some same starts c.deref.result.now changes stands.0 stands.2,
+      record {
+        volume = λ v some same starts ends.
+            ended_stands n c.args.first end redo old may c.args.count c.requires.gap less t ((g.met.R.Records.is_store _).is_tape t is) (c.requires.settled t is) v some same starts c.deref.result.now changes stands.0 stands.2;
+        outside = ended_outside n c.args.first end redo old may t stands.0 ((g.met.R.Records.is_store _).is_tape t is) c.args.count c.deref.result.now less changes stands.2;
+      },
     )
 
 pub returns-clause-stops : goal.returns-clause-stops

@@ -3,6 +3,7 @@ use Rattle.std.specs.Prelude.{IfSome}
 use Rattle.lif_model.specs.Volume.{Volume as VolumeModel}
 use Rattle.lif_dir.specs.Entries.{slot_bytes}
 use Rattle.lif_model.specs.Packing.{bears_mark}
+use Rattle.il_ports.proofs.Transfers.{nothing_yet}
 use Rattle.lif_pack.proofs.Stopped.{never, shown_here, settles_here}
 use Rattle.lif_pack.proofs.memory.Packer.finish.Goals as goal
 
@@ -23,3 +24,6 @@ returns-clause-still g c =
 
 pub returns-then-is_finished-clause-mounts : goal.returns-then-is_finished-clause-mounts
 returns-then-is_finished-clause-mounts g c t v is some off = record { few = omega arith; keeps = c.is_finished.ensures.kept c.if-is_finished.true }
+
+pub returns-then-is_finished-clause-writes : goal.returns-then-is_finished-clause-writes
+returns-then-is_finished-clause-writes g c t is off = (settles_here _ t (g.met.R.Records.is_store _) is, nothing_yet _ _)

@@ -44,12 +44,14 @@ pub returns-in-Some-clause-finishes : goal.returns-in-Some-clause-finishes
 returns-in-Some-clause-finishes g c = on_ok_two c.finish_task.result (λ slots finishes first end redo t v is some with_it those.
     let n : ℕ = (g.R.Records.view c.args.records.now).record_count in
     let old = slots_held c.args.self.now in
+    let p = c.requires.may in
     let of = subst (λ (o : Option Task). AreThoseOf n first end redo o old v) c.in-Some.is those in
     let x = finishes t v is some of.task_is in (
       x.0,
       x.1,
       subst (λ (xs : List (List ℕ)). IsFinishedTo first end xs t x.0) (sym slots)
-          (task_finished n first end redo old t v ((g.met.R.Records.is_store _).is_tape t is) some c.in-Some.task (subst (IsTaskWith n end redo old) c.in-Some.is with_it) of x.0 x.2),
+          (task_finished n first end redo old t v ((g.met.R.Records.is_store _).is_tape t is) some (c.requires.settled t is) c.in-Some.task (subst (IsTaskWith n end redo old) c.in-Some.is with_it)
+          p.0 p.1 p.2 p.3 (subst (IsTaskWith n p.1 p.2 old) c.in-Some.is p.4) of x.0 x.2),
     ))
     c.finish_task.ensures.slots c.finish_task.ensures.finishes
 

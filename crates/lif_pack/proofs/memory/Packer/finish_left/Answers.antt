@@ -7,7 +7,9 @@ use Rattle.il_ports.specs.Stores.{GoesOn, RunLeaves}
 use Rattle.il_ports.proofs.Stores.{goes_further, goes_within}
 use Rattle.lif_pack.specs.declared.tasks.Task.{Task}
 use Rattle.lif_pack.specs.Tasks.{MayFinish, IsLeftToDo, IsTaskOf, IsShownAs, calls_to_finish}
-use Rattle.lif_model.specs.Packing.{bears_mark}
+use Rattle.lif_model.specs.Packing.{bears_mark, has_mark}
+use Rattle.lif_model.specs.Volume.{volume_in, volume_of}
+use Rattle.lif_model.proofs.Redo.{settled_twice}
 use Rattle.lif_pack.proofs.Consulting.{task_is_marked}
 use Rattle.lif_pack.proofs.FinishedTape.{finished_after}
 use Rattle.lif_pack.proofs.Stopped.{shown_further, task_not_held, few_to_finish}
@@ -74,3 +76,18 @@ pub returns-in-Some-clause-mounts : goal.returns-in-Some-clause-mounts
 returns-in-Some-clause-mounts g c t v is some off =
     absurd (task_is_marked c.args.size t v c.in-Some.task (subst (IsLeftToDo c.args.size t) c.in-Some.is (c.in_ok-left_of.ensures.left t is).1) some
     (ap (λ (m : ℕ). bears_mark m v) c.requires.size ∙ off))
+
+pub returns-in_err-left_of-clause-writes : goal.returns-in_err-left_of-clause-writes
+returns-in_err-left_of-clause-writes g c t is off =
+    let passed : c.from_residual.result ≡ Err c.in_err-left_of.field-0.0 = search rules in
+    (c.left_of.ensures.settling t is, rw passed tt)
+
+pub returns-in-None-clause-writes : goal.returns-in-None-clause-writes
+returns-in-None-clause-writes g c t is off = (c.left_of.ensures.settling t is, c.in_ok-left_of.ensures.writes t is)
+
+pub returns-in-Some-clause-writes : goal.returns-in-Some-clause-writes
+returns-in-Some-clause-writes g c t is off =
+    let left = subst (IsLeftToDo c.args.size t) c.in-Some.is (c.in_ok-left_of.ensures.left t is).1 in
+    let here : volume_of t ≡ Some left.0 = sym (ap volume_in (settled_twice t)) ∙ left.1 in
+    absurd (task_is_marked c.args.size t left.0 c.in-Some.task left here
+    (ap (λ (m : ℕ). bears_mark m left.0) c.requires.size ∙ sym (ap (has_mark (g.R.Records.view c.args.volume.now.records).record_count) here) ∙ off))

@@ -9,6 +9,7 @@ use Rattle.lif_model.specs.Packing.{live_length, are_packed}
 use Rattle.lif_pack.specs.Packers.{slots_held}
 use Rattle.lif_pack.specs.Steps.{MayPack, ArePackedAlike}
 use Rattle.lif_pack.specs.Tasks.{KeepsFiles}
+use Rattle.lif_pack.proofs.Counted.{files_kept}
 use Rattle.lif_pack.proofs.Keeping.{kept_further}
 use Rattle.lif_pack.proofs.Placing.{next_below, same_slots_of, slots_keep, slots_then, placed_below, packed_then}
 use Rattle.lif_pack.proofs.Answered.{passed_on}
@@ -77,13 +78,17 @@ loop-slot-preserved g c =
       idle = λ none. absurd (omega (arith, none, c.loop-slot.auto.slot));
       moves = λ t is.
           let was = inv.moves t is in
-          let now = done.moves c.args.found.now.end was.0 may inv.placed was.1 in
-          (now.0, now.1, slots_then c.args.found.now.first c.args.found.now.end (slots_held c.args.self.now) slots (slots_held c.place_file.new.self) t was.0 now.0 was.2 now.2);
+          let now = done.moves c.args.found.now.end was.0 may inv.placed was.1 in (
+            now.0,
+            now.1,
+            slots_then c.args.found.now.first c.args.found.now.end (slots_held c.args.self.now) slots (slots_held c.place_file.new.self) t was.0 now.0
+                (files_kept n c.args.found.now.first c.args.found.now.end c.args.found.now.redo c.args.found.now.redo (slots_held c.args.self.now) slots c.requires.may inv.may inv.alike) was.2 now.2,
+          );
       stops = λ t is v some same starts ends.
           let was = inv.moves t is in
           kept_further (g.R.Records.view c.args.records.now) (g.R.Records.view c.loop-slot.records) (g.R.Records.view c.place_file.new.records) n t was.0 (g.met.R.Records.is_store _) was.1 (inv.stops t is v some same starts ends)
           (subst (λ (m : ℕ). RunLeaves (g.R.Records.view c.loop-slot.records) (g.R.Records.view c.place_file.new.records) (KeepsFiles m was.0)) size
-          (done.stops c.args.found.now.end was.0 may inv.placed was.1 (record v { slots = slots }) (was.2 v some same starts ends) refl starts ends));
+          (done.stops c.args.found.now.end was.0 may inv.placed was.1 (record v { slots = slots }) (was.2.volume v some same starts ends) refl starts ends));
     }
 
 pub returns-clause-packed : goal.returns-clause-packed
@@ -101,7 +106,7 @@ returns-in_err-next-clause-stops g c = λ t is v some same starts ends.
     let was = inv.moves t is in
     kept_further (g.R.Records.view c.args.records.now) (g.R.Records.view c.loop-slot.records) (g.R.Records.view c.place_file.new.records) n t was.0 (g.met.R.Records.is_store _) was.1 (inv.stops t is v some same starts ends)
     (subst (λ (m : ℕ). RunLeaves (g.R.Records.view c.loop-slot.records) (g.R.Records.view c.place_file.new.records) (KeepsFiles m was.0)) size
-    (c.place_file.ensures.stops c.args.found.now.end was.0 may inv.placed was.1 (record v { slots = slots }) (was.2 v some same starts ends) refl starts ends))
+    (c.place_file.ensures.stops c.args.found.now.end was.0 may inv.placed was.1 (record v { slots = slots }) (was.2.volume v some same starts ends) refl starts ends))
 
 pub returns-in_err-next-clause-idle : goal.returns-in_err-next-clause-idle
 returns-in_err-next-clause-idle g c none = absurd (omega (arith, none, c.loop-slot.auto.slot, c.loop-slot-test.true))

@@ -7,7 +7,7 @@ use Rattle.il_ports.specs.Stores.{GoesOn, RunLeaves}
 use Rattle.il_ports.specs.Transfers.{AddsOnly, GoesOnBy}
 use Rattle.il_ports.proofs.Stores.{goes_further, goes_within}
 use Rattle.lif_commit.proofs.Staging.{goes_failed, goes_told}
-use Rattle.lif_volume.specs.Answers.{store_answer, troubled}
+use Rattle.lif_volume.specs.Answers.{IsSettledAs, store_answer, troubled}
 use Rattle.lif_volume.specs.Commands.{SettlesOnly}
 use Rattle.lif_pack.specs.declared.pack.Packed.{Packed}
 use Rattle.lif_pack.specs.declared.reading.Readable.{Readable}
@@ -136,6 +136,7 @@ returns-in_err-found-clause-again g c = λ t is on.
           (sym passed)
           (subst (λ r. AddsOnly (IsSettleWrite n (redo_of u)) (g.R.Records.view c.args.volume.now.records).transferred (g.R.Records.view r).transferred (store_answer {T = Packed} (Err fault))) (sym lent)
           (adds_alike Readable Packed fault _ _ _ (c.in_err-found.ensures.writes u told))),
+      subst (λ answer. IsSettledAs t (g.R.Records.view c.records_mut-records.result.now).tape answer) (sym passed) tt,
     )
 
 pub returns-in_err-packed-clause-again : goal.returns-in_err-packed-clause-again
@@ -157,4 +158,18 @@ returns-clause-again g c = λ t is on.
     let still : c.pack_held.new.records ≡ c.read-read.new.volume.records = (c.pack_held.ensures.idle stands.none stands.live stands.placed).1 ∙ c.records_mut-records.ensures.value in (
       λ u told. subst (λ r. SettlesOnly (g.R.Records.view c.args.volume.now.records) (g.R.Records.view r) u) (sym still) (read.settling u told),
       λ u told. subst (λ r. GoesOnBy (IsSettleWrite n (redo_of u)) (g.R.Records.view c.args.volume.now.records).transferred (g.R.Records.view r).transferred) (sym still) (read.writes u told),
+      ap (λ r. (g.R.Records.view r).tape) still ∙ those.0,
     )
+
+-- ---- a refusal
+
+pub returns-in_err-found-clause-refusal : goal.returns-in_err-found-clause-refusal
+returns-in_err-found-clause-refusal g c = λ why is u told.
+    let n : ℕ = (g.R.Records.view c.args.volume.now.records).record_count in
+    let fault = c.in_err-found.field-0.0 in
+    let lent : c.records_mut-records.result.now ≡ c.read-read.new.volume.records = c.records_mut-records.ensures.value in
+    let passed : c.from_residual.result ≡ Err fault = passed_on c.from_residual.result fault c.from_residual.ensures.0 c.from_residual.ensures.1 in
+    subst (λ answer. AddsOnly (IsSettleWrite n (redo_of u)) (g.R.Records.view c.args.volume.now.records).transferred (g.R.Records.view c.records_mut-records.result.now).transferred (store_answer answer))
+    (sym passed)
+    (subst (λ r. AddsOnly (IsSettleWrite n (redo_of u)) (g.R.Records.view c.args.volume.now.records).transferred (g.R.Records.view r).transferred (store_answer {T = Packed} (Err fault))) (sym lent)
+    (adds_alike Readable Packed fault _ _ _ (c.in_err-found.ensures.writes u told)))

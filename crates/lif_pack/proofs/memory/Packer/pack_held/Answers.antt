@@ -18,7 +18,7 @@ use Rattle.lif_pack.proofs.Answered.{passed_on}
 use Rattle.lif_pack.proofs.Placing.{redo_lies, end_below}
 use Rattle.lif_pack.proofs.Keeping.{kept_further}
 use Rattle.lif_pack.proofs.Held.{left_few, packing_few}
-use Rattle.lif_pack.proofs.PackedTape.{packed_after, packed_may, packed_on, packed_shown}
+use Rattle.lif_pack.proofs.PackedTape.{packed_after, packed_may, packed_on, packed_outside, packed_shown}
 use Rattle.lif_pack.proofs.memory.Packer.pack_held.Goals as goal
 
 pub returns-in_err-finish_held-clause-goes_on : goal.returns-in_err-finish_held-clause-goes_on
@@ -151,7 +151,7 @@ returns-in_err-close_directory-clause-stops g c t v is some those =
     let may2 : MayPack n c.args.found.now.first c.args.found.now.end c.args.found.now.redo slots2 = subst (λ (m : ℕ). MayPack m c.args.found.now.first c.args.found.now.end c.args.found.now.redo slots2) size1 mv.may in
     let x = fin.finishes c.args.found.now.first c.args.found.now.end c.args.found.now.redo t v is some c.requires.task those in
     let y = mv.moves x.0 x.1 in
-    let moved = y.2 x.2.volume x.2.stands x.2.slots_are x.2.starts x.2.ends in
+    let moved = y.2.volume x.2.volume x.2.stands x.2.slots_are x.2.starts x.2.ends in
     let one = kept_further (g.R.Records.view c.args.records.now) (g.R.Records.view c.finish_held.new.records) (g.R.Records.view c.move_files.new.records) n t x.0 (g.met.R.Records.is_store _) x.1 (c.finish_held.ensures.stops c.args.found.now.first c.args.found.now.end c.args.found.now.redo t v is some those)
     (subst (λ (m : ℕ). RunLeaves (g.R.Records.view c.finish_held.new.records) (g.R.Records.view c.move_files.new.records) (KeepsFiles m x.0)) size1
     (c.move_files.ensures.stops x.0 x.1 x.2.volume x.2.stands x.2.slots_are x.2.starts x.2.ends)) in
@@ -209,6 +209,7 @@ returns-clause-packs g c t v is some those =
         shown_after = packed_shown n c.args.found.now.first c.args.found.now.end c.args.found.now.redo slots1 slots2 t x.0 x.2 tape_x may1.0 u.0 size_u after;
         is_packed = packed_on n c.args.found.now.first c.args.found.now.end c.args.found.now.redo slots1 slots2 t x.0 x.2 tape_x may1.0 u.0 after;
         is_settled = c.in_ok-close_directory.ensures.settled u.0 u.1;
+        outside = packed_outside n c.args.found.now.first c.args.found.now.end c.args.found.now.redo slots1 slots2 t x.0 x.2 (c.requires.settled t is) may1.0 may2 alike y.0 u.0 y.2 u.2;
         files = c.files_moved.ensures.count n c.args.found.now.first may1.0 x.2.volume x.2.slots_are x.2.ends;
         free = c.from.ensures ∙ c.records_free.ensures x.2.volume x.2.slots_are x.2.ends ∙ ap (λ (m : ℕ). records_free m x.2.volume) (c.size-size.ensures ∙ size1);
       },
@@ -227,7 +228,7 @@ returns-clause-stops g c t v is some those =
     let may2 : MayPack n c.args.found.now.first c.args.found.now.end c.args.found.now.redo slots2 = subst (λ (m : ℕ). MayPack m c.args.found.now.first c.args.found.now.end c.args.found.now.redo slots2) size1 mv.may in
     let x = fin.finishes c.args.found.now.first c.args.found.now.end c.args.found.now.redo t v is some c.requires.task those in
     let y = mv.moves x.0 x.1 in
-    let moved = y.2 x.2.volume x.2.stands x.2.slots_are x.2.starts x.2.ends in
+    let moved = y.2.volume x.2.volume x.2.stands x.2.slots_are x.2.starts x.2.ends in
     let one = kept_further (g.R.Records.view c.args.records.now) (g.R.Records.view c.finish_held.new.records) (g.R.Records.view c.move_files.new.records) n t x.0 (g.met.R.Records.is_store _) x.1 (c.finish_held.ensures.stops c.args.found.now.first c.args.found.now.end c.args.found.now.redo t v is some those)
     (subst (λ (m : ℕ). RunLeaves (g.R.Records.view c.finish_held.new.records) (g.R.Records.view c.move_files.new.records) (KeepsFiles m x.0)) size1
     (c.move_files.ensures.stops x.0 x.1 x.2.volume x.2.stands x.2.slots_are x.2.starts x.2.ends)) in

@@ -11,7 +11,7 @@ use Rattle.lif_model.specs.Packing.{live_length, with_start}
 use Rattle.lif_pack.specs.Packers.{slots_held}
 use Rattle.lif_pack.specs.Steps.{MayPack, ArePlaced, HasSlotsOf, ArePackedAlike}
 use Rattle.lif_pack.proofs.Order.{live_whole}
-use Rattle.lif_pack.proofs.Placing.{redo_lies, may_pack_on, placed_on, packed_alike, stays_placed, next_below, slots_keep, stands_there}
+use Rattle.lif_pack.proofs.Placing.{redo_lies, may_pack_on, placed_on, packed_alike, stays_placed, next_below, same_slots_of, slots_keep, stands_there}
 use Rattle.lif_pack.proofs.memory.Packer.place_file.Goals as goal
 
 pub entry-entry-requires : goal.entry-entry-requires
@@ -104,6 +104,9 @@ returns-clause-may g c = λ end may placed.
           (placed_on n c.args.first end c.args.redo slots may c.args.slot c.args.place placed c.requires.before takes down),
       packed_alike n c.args.first end c.args.redo slots may c.args.slot c.args.place placed c.requires.before takes down,
     )
+
+pub returns-then-not-begins_above-clause-moves : goal.returns-then-not-begins_above-clause-moves
+returns-then-not-begins_above-clause-moves g c = λ end t may placed is. (t, is, same_slots_of c.args.first end (slots_held c.args.self.now) t)
 
 pub returns-clause-moves : goal.returns-clause-moves
 returns-clause-moves g c = λ end t may placed is.
