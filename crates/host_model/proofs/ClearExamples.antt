@@ -1,5 +1,10 @@
 -- Worked examples of commands of the volume behind a fault, computed by the checker: the drive is to be cleared first.
-use Rattle.std.proofs.Common.{◌≡◌, ◌++◌, suc, zero, Bool, List, [], ◌∷◌, true, false, refl, sym, inl, arith}
+use Rattle.std.proofs.Common.{◌≡◌, ◌∙◌, ◌++◌, suc, zero, Bool, List, [], ◌∷◌, Some, true, false, refl, sym, ap, subst, inl, arith}
+use Rattle.std.specs.Prelude.{unwrap_or}
+use Rattle.lif_model.specs.Tape.{Tape}
+use Rattle.lif_model.specs.Redo.{settled}
+use Rattle.lif_model.specs.Commit.{SettlesAs}
+use Rattle.lif_model.proofs.Commit.{settles_self}
 use Rattle.lif_model.specs.Apply as volume
 use Rattle.lif_model.proofs.VolumeExamples.{a_name}
 use Rattle.il_frames.specs.declared.frame.Frame.{Frame}
@@ -8,6 +13,7 @@ use Rattle.il_frames.specs.NamedFrames.{ifc, aau, unl, lad}
 use Rattle.loop_model.specs.Exchanges.{Command, Address, Send, Receive, Identify, FrameLost, HostAltered, TalkerAltered, Piece, Whole, Cut}
 use Rattle.il_script.specs.declared.reply.Code.TheVariants as code
 use Rattle.il_script.specs.declared.reply.Reply.TheVariants as reply
+use Rattle.host_model.proofs.Tapes.{tape_faulted}
 use Rattle.host_model.specs.Requests.{OfVolume, Item, Asks}
 use Rattle.host_model.specs.HostStates.{HostState}
 use Rattle.host_model.specs.Courses.{Due, begins_with, cleared_first, is_commanding}
@@ -84,8 +90,12 @@ lost_fetch_acts = record {
   still = λ h. absurd (false_is_not_true (sym h));
 }
 
+-- the tape is as it was
+alike : (t u : Tape) → Some t ≡ Some u → SettlesAs (settled t) u
+alike t u same = subst (SettlesAs (settled t)) (ap (λ o. unwrap_or o t) same) (settles_self t)
+
 lost_fetch : IsStep sixth (record lost_event { item = asks_fetch })
-lost_fetch = record { acts = lost_fetch_acts; directory = record { kept = refl; log = λ on. absurd (false_is_not_true on) } }
+lost_fetch = record { acts = lost_fetch_acts; directory = record { kept = refl; log = λ on. absurd (false_is_not_true on) }; tape = tape_faulted _ refl (λ on t u before after off. alike t u (sym before ∙ after)) }
 
 -- and the store counted as sound behind it
 sound_behind_a_fault : IsStep sixth (record lost_event { item = asks_fetch; after = record lost_host { sound = true } }) → ⊥

@@ -24,6 +24,7 @@ use Rattle.host_model.specs.Leaves.{AsksAs, AsksScript, IsOkAs, IsUntouched, Kee
 use Rattle.host_model.proofs.Growing.{left_before}
 use Rattle.host_model.proofs.NoCommands.{no_command, refusal}
 use Rattle.host_model.proofs.Runs.{run_tells}
+use Rattle.host_model.proofs.Tapes.{plain_run}
 use Rattle.host_model.proofs.Small.{printer, host_on, texts_differ, numbers_differ, false_is_not_true}
 use Rattle.host_model.proofs.StepExamples.{asked_on, lines, log_of, loss_on, lost_on, lost_step, sixth, status_on, status_pieces, status_step}
 
@@ -138,6 +139,7 @@ runs end plan quiet script left written finish stays ran = record {
   ran = ran;
   tells = run_tells plan start ran.events finish ran.chain refl (omega arith);
   back = record { tape = refl; faults = refl; before = refl; after = append-nil finish.loop.after; guest = sym (run_tells plan start ran.events finish ran.chain refl (omega arith)).guest; aside = λ off. refl };
+  plain = plain_run plan start ran.events finish ran.chain;
   stops = λ told x h. left_before plan start ran.events finish x ran.chain h;
   shelf = keeps_shelf script left written finish stays;
 }

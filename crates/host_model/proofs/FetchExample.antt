@@ -1,5 +1,15 @@
 -- A worked example, computed by the checker: a file of one record is fetched, by one transfer over the loop.
-use Rattle.std.proofs.Common.{ℕ, List, [], ◌∷◌, Option, Some, None, refl, sym, subst, arith, map, replicate, take, false, true}
+use Rattle.std.proofs.Common.{◌≡◌, ℕ, List, [], ◌∷◌, Option, Some, None, refl, sym, ◌∙◌, ap, subst, arith, map, replicate, take, false, true}
+use Rattle.std.specs.Prelude.{unwrap_or}
+use Rattle.lif_model.specs.Tape.{Tape}
+use Rattle.lif_model.specs.Shelf.{piece}
+use Rattle.lif_model.specs.Redo.{settled, zeros, targets_record, is_valid}
+use Rattle.lif_model.specs.Commit.{SettlesAs}
+use Rattle.lif_model.proofs.Commit.{settles_self}
+use Rattle.lif_model.specs.Volume.{Volume, volume_of}
+use Rattle.lif_model.specs.Changing.{IsWrittenOn}
+use Rattle.lif_model.specs.Finished.{IsPlain, IsFinished}
+use Rattle.loop_model.specs.Effect.{transfer_of}
 use Rattle.lif_model.specs.Numbers.{two_at, four_at}
 use Rattle.lif_model.specs.Gate.{is_open}
 use Rattle.lif_model.specs.Directory.{name_of, entry_at, entries_of}
@@ -13,7 +23,7 @@ use Rattle.loop_model.specs.Exchanges.{Echo, Command, Address, Send, Receive, Sd
 use Rattle.il_script.specs.declared.reply.Reply.TheVariants as reply
 use Rattle.host_model.specs.Requests.{OfVolume, Asks}
 use Rattle.host_model.specs.HostStates.{HostState}
-use Rattle.host_model.specs.Steps.{Acts, Event, IsFetchedFrom, Travels, IsStep, Exchanged}
+use Rattle.host_model.specs.Steps.{Acts, Event, IsFetchedFrom, LeavesOnTape, Travels, IsStep, Exchanged}
 use Rattle.host_model.proofs.Steps.{alike_staying, unfaulted}
 use Rattle.host_model.proofs.Small.{printer, a_host, a_tape, false_is_not_true}
 use Rattle.host_model.proofs.TextExamples.{a_bytes, a_found}
@@ -84,8 +94,43 @@ fetch_acts = record {
   still = λ h. absurd (false_is_not_true (sym h));
 }
 
+same_tape : (x t : Tape) → Some x ≡ Some t → x ≡ t
+same_tape x t is = ap (λ o. unwrap_or o x) is
+
+-- the tape is settled, and no packing of it was stopped
+finished_here : IsFinished a_tape a_tape
+unfolding two_at four_at name_of is_open entry_at entries_of is_valid targets_record piece zeros
+finished_here = record { is_settled = refl; records = refl; plain = λ off. refl; below = λ k lt. refl; volume = refl; clear = refl }
+
+plain_here : IsPlain 12 a_tape
+unfolding two_at four_at name_of is_open entry_at entries_of is_valid targets_record piece zeros
+plain_here = record { is_settled = refl; clear = refl }
+
+fetch_tape : LeavesOnTape fetch_event
+fetch_tape = record {
+  plain = λ of ok t u before after. subst (IsPlain 12) (same_tape a_tape u after) plain_here;
+  same = λ on t u before after. subst (λ (x : Tape). IsFinished x u) (same_tape a_tape t before) (subst (IsFinished a_tape) (same_tape a_tape u after) finished_here);
+  writes = λ on t before off. record {
+    list = map transfer_of (units_of (host_loop 2 1) fetch_pieces);
+    transferred = record { reading = record { pieces = fetch_pieces; legal = refl; entries = refl }; outside = refl; good = refl; are = refl };
+    only = (λ h. absurd (false_is_not_true h), tt);
+  };
+  commits = λ ok changes. absurd (false_is_not_true (sym changes));
+  reads = λ on t u before after off. subst (SettlesAs (settled t)) (same_tape t u (sym before ∙ after)) (settles_self t);
+  written = λ t u before after. (
+    a_tape,
+    subst (λ (x : Tape). IsFinished x a_tape) (same_tape a_tape t before) finished_here,
+    written_none (volume_of a_tape) u (sym (same_tape a_tape u after)),
+  );
+  again = λ is. cc;
+}
+  where
+    written_none : (v : Option Volume) (u : Tape) → u ≡ a_tape → IsWrittenOn 12 (volume.Fetch a_name) v a_tape u
+    written_none None u is = is
+    written_none (Some v) u is = is
+
 fetch_step : IsStep [] fetch_event
-fetch_step = record { acts = fetch_acts; directory = record { kept = refl; log = λ on. absurd (false_is_not_true on) } }
+fetch_step = record { acts = fetch_acts; directory = record { kept = refl; log = λ on. absurd (false_is_not_true on) }; tape = fetch_tape }
 
 -- with bytes of another record it carries nothing of the file
 carried_of_another : IsFetchedFrom (Some (file a_name 5 1)) (Some a_bytes) (units_of (host_loop 2 1) fetch_pieces) → ⊥

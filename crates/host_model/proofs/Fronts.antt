@@ -1,21 +1,21 @@
 -- What the log of exchanges of the host says of who controls the loop: the host keeps control, and takes it first where the loop is not
 -- ready.
-use Rattle.std.proofs.Common.{◌≡◌, ◌∙◌, ◌++◌, ◌==◌, ◌&&◌, ℕ, zero, suc, Bool, true, false, List, [], ◌∷◌, flat_map, Option, Some, refl, sym, ap, subst, eqb-true}
+use Rattle.std.proofs.Common.{◌≡◌, ◌∙◌, ◌++◌, ◌==◌, ℕ, zero, suc, true, false, List, [], ◌∷◌, flat_map, Some, refl, sym, ap, subst, eqb-true}
 use Rattle.std.proofs.lemmas.Bool.{and_from, and_parts}
 use Rattle.il_frames.specs.declared.frame.Class.{Class}
 use Rattle.il_frames.specs.declared.frame.Class.TheVariants as class
 use Rattle.il_frames.specs.declared.frame.Frame.{Frame}
 use Rattle.il_frames.specs.declared.entry.Entry.{Entry}
-use Rattle.il_frames.specs.Frames.{byte_of, class_of, same_class}
+use Rattle.il_frames.specs.Frames.{same_class}
 use Rattle.il_frames.specs.Messages.{message_at, message_of}
 use Rattle.il_frames.specs.NamedFrames.{ifc, is_frame, is_ifc}
 use Rattle.il_ring.specs.declared.plan.Planned.{Planned}
-use Rattle.loop_model.specs.Exchanges.{Break, FrameLost, HostAltered, TalkerAltered, Exchange, Command, Address, Send, Receive, Identify, Piece, Whole, Cut, cut_at, commanded, piece_entries}
+use Rattle.loop_model.specs.Exchanges.{Break, FrameLost, HostAltered, TalkerAltered, Command, Address, Send, Receive, Identify, Piece, Whole, Cut, cut_at, commanded, piece_entries}
 use Rattle.loop_model.specs.Leading.{controller_after}
 use Rattle.loop_model.proofs.LeadingLaws.{controller_after-no_lend, has_no_lend-reading}
 use Rattle.host_model.specs.Requests.{is_of_volume}
 use Rattle.host_model.specs.LoopStates.{LoopState, ring_of}
-use Rattle.host_model.specs.Courses.{Due, addressed_first, addresses_due, begins_with, cleared_first, clears_due, course_of, is_commanding, keeps_course, keeps_to}
+use Rattle.host_model.specs.Courses.{Due, addresses_due, begins_with, cleared_first, clears_due, course_of, keeps_course, keeps_to}
 use Rattle.host_model.specs.Steps.{Event, Exchanged, takes_back_first}
 
 -- a frame that is IFC is one by its message

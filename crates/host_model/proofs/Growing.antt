@@ -7,7 +7,7 @@ use Rattle.lif_model.specs.Stops.{LeavesOnly}
 use Rattle.lif_model.specs.Tape.{Tape}
 use Rattle.lif_model.proofs.Commit.{settles_self}
 use Rattle.lif_model.specs.Volume.{is_foreign_gated}
-use Rattle.lif_model.specs.Packing.{finished_volume_of, files_shown}
+use Rattle.lif_model.specs.Packing.{finished_volume_of}
 use Rattle.lif_model.proofs.Moments.{started, follows, weaker}
 use Rattle.il_script.specs.Replies.{is_ok}
 use Rattle.il_script.specs.declared.reply.Reply.{Reply}
@@ -15,7 +15,7 @@ use Rattle.il_script.specs.declared.reply.Reply.TheVariants as reply
 use Rattle.il_ring.specs.declared.plan.Planned.{Planned}
 use Rattle.host_model.specs.Requests.{OfVolume, Get, Pack, Devices, Status, Poll, Say, Paper, Lend, Item, Asks, NoCommand}
 use Rattle.host_model.specs.HostStates.{HostState, HasOwnGate}
-use Rattle.host_model.specs.Steps.{Event, IsStep}
+use Rattle.host_model.specs.Steps.{Event, IsStep, packs_as}
 use Rattle.host_model.specs.Stops.{IsLeft, MayBeLeft, LeftWithin}
 use Rattle.host_model.specs.Runs.{AreTextsOf, Chained, IsTextOf, items_asked, all_ok, OutputMode, event_text, event_texts, Tally, with_reply, tally_of}
 use Rattle.host_model.proofs.NoCommands.{told_tape}
@@ -101,7 +101,7 @@ left_as_is tape x By is by = record {
 pub left_at_first : (item : Item) (s : HostState) (x : Tape) → s.tape ≡ Some x → MayBeLeft item s x
 left_at_first (Asks (OfVolume command)) s x is = left_as_is s.tape x _ is (inl (sym (ap (option_and_then finished_volume_of) is)))
 left_at_first (Asks (Get name)) s x is = left_as_is s.tape x _ is (sym (ap (option_and_then finished_volume_of) is))
-left_at_first (Asks Pack) s x is = left_as_is s.tape x _ is (sym (ap (λ tape. files_shown s.records (option_and_then finished_volume_of tape)) is))
+left_at_first (Asks Pack) s x is = left_as_is s.tape x _ is (sym (ap (λ tape. packs_as s.records (option_and_then finished_volume_of tape)) is))
 left_at_first (Asks Devices) s x is = is
 left_at_first (Asks Status) s x is = is
 left_at_first (Asks Poll) s x is = is

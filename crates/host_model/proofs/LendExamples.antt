@@ -24,6 +24,7 @@ use Rattle.il_guest.specs.Frames.{tct}
 use Rattle.il_ring.specs.Fates.{IsByPlan}
 use Rattle.il_ring.specs.Lends.{Lend as Lending, AtHost, NoTaker, NoTakerCut, Lent as LentSo, LentCut, LentLost, addressed_talker, are_rounds, arrivals, is_lend, lend_entries, rounds_entries, stands_at_last}
 use Rattle.il_ring.specs.Statuses.{is_back}
+use Rattle.host_model.proofs.Tapes.{tape_other}
 use Rattle.host_model.specs.Courses.{keeps_to}
 use Rattle.host_model.specs.Requests.{Status, Lend, Item, Asks, NoCommand, items_of}
 use Rattle.host_model.specs.LoopStates.{LoopState, addresses_asked, device_count, last_address}
@@ -199,7 +200,7 @@ one_acts tape n = record {
 }
 
 one_step : (tape : Tape) (n : ℕ) → IsStep [] (one_on tape n)
-one_step tape n = record { acts = one_acts tape n; directory = record { kept = refl; log = λ on. absurd (false_is_not_true on) } }
+one_step tape n = record { acts = one_acts tape n; directory = record { kept = refl; log = λ on. absurd (false_is_not_true on) }; tape = tape_other (one_on tape n) refl }
 
 abbrev one_event : Event
 one_event = one_on base.formatted 12

@@ -19,6 +19,8 @@ mod GetExamples
 mod BatchExamples
 mod DirectoryExamples
 pub mod NoCommands
+pub mod Tapes
 mod PackExamples
 mod LendExamples
+mod TapeExamples
 pub mod Addressed

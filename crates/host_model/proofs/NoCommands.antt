@@ -12,6 +12,7 @@ use Rattle.il_script.specs.declared.reply.Reply.TheVariants as reply
 use Rattle.il_ring.specs.declared.plan.Planned.{Planned}
 use Rattle.il_ring.specs.Plans.{hops_of}
 use Rattle.il_ring.specs.Fates.{IsByPlan}
+use Rattle.host_model.proofs.Tapes.{tape_other}
 use Rattle.host_model.specs.Requests.{NoCommand}
 use Rattle.host_model.specs.LoopStates.{all_roles, device_count}
 use Rattle.host_model.specs.HostStates.{HostState}
@@ -79,7 +80,7 @@ no_command_acts plan code s one = record {
 }
 
 pub no_command : (plan : List Planned) (code : Code) (s : HostState) → is_at_most_one (talkers (all_roles s.loop)) ≡ true → IsStep plan (refusal code s)
-no_command plan code s one = record { acts = no_command_acts plan code s one; directory = record { kept = refl; log = λ on. tt } }
+no_command plan code s one = record { acts = no_command_acts plan code s one; directory = record { kept = refl; log = λ on. tt }; tape = tape_other (refusal code s) refl }
 
 -- ---- stops
 

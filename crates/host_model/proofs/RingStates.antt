@@ -14,7 +14,7 @@ use Rattle.loop_model.specs.Polls.{poll_place, polled_along}
 use Rattle.loop_model.specs.Reach.{links, passes, held_at_end}
 use Rattle.loop_model.specs.Exchanges.{Reading}
 use Rattle.loop_model.specs.Leading.{OneTalkerLed, are_commands_led, has_no_lend, roles_led}
-use Rattle.loop_model.specs.Roles.{OneTalker, roles_after}
+use Rattle.loop_model.specs.Roles.{OneTalker}
 use Rattle.loop_model.proofs.Commanded.{commands-reading}
 use Rattle.loop_model.proofs.LeadingLaws.{OneTalkerLed-no_lend, has_no_lend-reading, roles_led-no_lend}
 use Rattle.loop_model.proofs.DeviceLaws.{each_weaker}

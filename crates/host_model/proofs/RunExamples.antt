@@ -14,6 +14,7 @@ use Rattle.lif_model.proofs.Examples as base
 use Rattle.lif_model.proofs.VolumeExamples.{a_name}
 use Rattle.il_script.specs.declared.reply.Code.TheVariants as code
 use Rattle.il_script.specs.declared.reply.Reply.TheVariants as reply
+use Rattle.host_model.proofs.Tapes.{tape_other}
 use Rattle.host_model.specs.Requests.{OfVolume, Status, Item, Asks, items_of}
 use Rattle.host_model.specs.Generated.{draw, drawn, generated_lines, items_generated}
 use Rattle.host_model.specs.HostStates.{HostState}
@@ -70,7 +71,7 @@ late_acts = record {
 }
 
 late_step : IsStep sixth late_event
-late_step = record { acts = late_acts; directory = record { kept = refl; log = λ on. absurd (false_is_not_true on) } }
+late_step = record { acts = late_acts; directory = record { kept = refl; log = λ on. absurd (false_is_not_true on) }; tape = tape_other late_event refl }
 
 abbrev pub events : List Event
 events = lost_event ∷ late_event ∷ []

@@ -21,6 +21,7 @@ use Rattle.il_ring.specs.declared.plan.Planned.{Planned}
 use Rattle.il_ring.specs.declared.plan.PlanFault.TheVariants.{Lose}
 use Rattle.il_ring.specs.Plans.{hops_of}
 use Rattle.il_ring.specs.Fates.{IsByPlan}
+use Rattle.host_model.proofs.Tapes.{tape_other}
 use Rattle.host_model.specs.Requests.{Status, Asks}
 use Rattle.host_model.specs.HostStates.{HostState}
 use Rattle.host_model.specs.Replies.{trace_text}
@@ -104,7 +105,7 @@ status_acts tape n = record {
 }
 
 pub status_step : (tape : Tape) (n : ℕ) → IsStep [] (status_on tape n)
-status_step tape n = record { acts = status_acts tape n; directory = record { kept = refl; log = λ on. absurd (false_is_not_true on) } }
+status_step tape n = record { acts = status_acts tape n; directory = record { kept = refl; log = λ on. absurd (false_is_not_true on) }; tape = tape_other (status_on tape n) refl }
 
 abbrev pub asked_host : HostState
 asked_host = asked_on base.formatted 12
@@ -219,7 +220,7 @@ lost_acts tape n = record {
 }
 
 pub lost_step : (tape : Tape) (n : ℕ) → IsStep sixth (loss_on tape n)
-lost_step tape n = record { acts = lost_acts tape n; directory = record { kept = refl; log = λ on. absurd (false_is_not_true on) } }
+lost_step tape n = record { acts = lost_acts tape n; directory = record { kept = refl; log = λ on. absurd (false_is_not_true on) }; tape = tape_other (loss_on tape n) refl }
 
 abbrev pub lost_host : HostState
 lost_host = lost_on base.formatted 12

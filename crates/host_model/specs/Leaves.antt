@@ -3,6 +3,7 @@ use Rattle.std.specs.Prelude.{◌≡◌, ◌⊎◌, ◌≤◌, ◌<◌, ℕ, tru
 use Rattle.std.specs.Io.KnownBytes.{Appends, IsAtEnd}
 use Rattle.lif_model.specs.Shelf.{Shelf, OthersStay, bytes_of, image_of, largest_image}
 use Rattle.lif_model.specs.Tape.{Tape}
+use Rattle.lif_model.specs.Finished.{IsPlain}
 use Rattle.il_script.specs.declared.limits.TheConstants.{LONGEST_SCRIPT}
 use Rattle.il_script.specs.LineCut.{line_cut, line_told}
 use Rattle.il_ring.specs.declared.plan.Planned.{Planned}
@@ -11,7 +12,7 @@ use Rattle.host_model.specs.Generated.{items_generated}
 use Rattle.host_model.specs.HostStates.{HostState}
 use Rattle.host_model.specs.Steps.{Event}
 use Rattle.host_model.specs.Stops.{LeavesWithin}
-use Rattle.host_model.specs.Runs.{AreTextsOf, Chained, items_asked, all_ok, OutputMode, Summary, event_text, summary, output}
+use Rattle.host_model.specs.Runs.{AreTextsOf, Chained, items_asked, all_ok, OutputMode, Summary, event_text, summary, output, ended_ok}
 use Rattle.host_model.specs.Histories.{RunTells}
 use Rattle.host_model.specs.Endings.{RunEnd, AllOk, SomeNotOk, BadWords, NoImage, ImageTooLarge, SourceFailed, SinkFailed, OutOfMemory, ScriptTooLong, InsertFailed}
 use Rattle.host_model.specs.Orders.{Order, Outside, Opens, Inserts, HandsBack, mode_of}
@@ -124,6 +125,8 @@ pub record RunsOver (end : RunEnd) (order : Order) (old now : Outside) (stopped 
   pub ran : RunSoFar order.plan order.generated (mode_of order) end start finish old.left now.left old.written now.written
   pub tells : RunTells order.plan start ran.events finish
   pub back : HandsBack order finish old now
+  -- if the last command of the volume replied ok, nothing is left to settle or to finish
+  pub plain : ended_ok false ran.events ≡ true → (t : Tape) → finish.tape ≡ Some t → IsPlain finish.records t
   pub stops : LeavesWithin start ran.events finish stopped
   pub shelf : KeepsShelf order old now
 

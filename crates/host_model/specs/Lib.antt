@@ -8,6 +8,7 @@ pub mod Generated
 pub mod Next
 pub mod Courses
 pub mod Directories
+pub mod Tapes
 pub mod Steps
 pub mod Stops
 pub mod Runs

@@ -1,12 +1,12 @@
 -- Runs: lists of events, one behind the other, and what they tell.
-use Rattle.std.specs.Prelude.{◌≡◌, ℕ, ◌+◌, Bool, List, [], ◌∷◌, ◌++◌, length, map, codes, decimal}
+use Rattle.std.specs.Prelude.{◌≡◌, ℕ, ◌+◌, Bool, if◌then◌else◌, List, [], ◌∷◌, ◌++◌, length, map, codes, decimal}
 use Rattle.std.specs.List.{flat_map, list_all}
 use Rattle.il_frames.specs.declared.entry.Entry.{Entry}
 use Rattle.il_script.specs.Replies.{text_line, next, is_ok}
 use Rattle.il_script.specs.declared.reply.Reply.{Reply}
 use Rattle.il_script.specs.declared.reply.Reply.TheVariants as reply
 use Rattle.il_ring.specs.declared.plan.Planned.{Planned}
-use Rattle.host_model.specs.Requests.{Item}
+use Rattle.host_model.specs.Requests.{Item, is_of_volume}
 use Rattle.host_model.specs.HostStates.{HostState}
 use Rattle.host_model.specs.Replies.{reply_text, trace_text}
 use Rattle.host_model.specs.Steps.{Event, IsStep, TellsReply}
@@ -31,6 +31,11 @@ joined_log events = flat_map (λ e. e.log) events
 -- every reply is ok
 abbrev pub all_ok : List Event → Bool
 all_ok events = list_all (λ e. is_ok e.reply) events
+
+-- the last command of the volume among them replied ok; or, where there is none, this
+abbrev pub ended_ok : Bool → List Event → Bool
+ended_ok was [] = was
+ended_ok was (e ∷ events) = ended_ok (if is_of_volume e.item then is_ok e.reply else was) events
 
 -- ---- tallies
 

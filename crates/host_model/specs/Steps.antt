@@ -11,11 +11,12 @@ use Rattle.lif_model.specs.Made.{file_length, filled}
 use Rattle.lif_model.specs.Fit.{Place, At, fit_in}
 use Rattle.lif_model.specs.Redo.{settled}
 use Rattle.lif_model.specs.Commit.{SettlesAs}
-use Rattle.lif_model.specs.Volume.{Volume, is_foreign_gated}
+use Rattle.lif_model.specs.Volume.{Volume, is_foreign_gated, volume_of}
 use Rattle.lif_model.specs.Apply.{Store, Fetch, Batch}
 use Rattle.lif_model.specs.Writing.{NewFile, files_left}
 use Rattle.lif_model.specs.Transfers.{carries}
-use Rattle.lif_model.specs.Packing.{files_shown}
+use Rattle.lif_model.specs.declared.refusal.Refusal.{Refusal}
+use Rattle.lif_model.specs.Packing.{Shown, files_shown, repacked}
 use Rattle.il_frames.specs.declared.entry.Entry.{Entry}
 use Rattle.il_device.specs.State.{DeviceState, risen_by}
 use Rattle.loop_model.specs.Effect.{UnitsEffect, is_out, is_in, transfer_of, ends_as, all_good}
@@ -40,6 +41,8 @@ use Rattle.host_model.specs.Replies.{reply_of, volume_behind}
 use Rattle.host_model.specs.Courses.{addressed_first, begins_with, cleared_first, course_of, keeps_course, keeps_to}
 use Rattle.host_model.specs.Next.{Next, BoxedBecome}
 use Rattle.host_model.specs.Directories.{IsKeptAfter, LogOfKept}
+use Rattle.host_model.specs.Tapes.{CommitsFor, IsKeptTape, IsWritten, OnlySettling, finishes_first, only_reads, only_settles}
+use Rattle.lif_model.specs.Finished.{IsPackedOn, IsPlain}
 
 pub record Event : Type 0 where
   pub item : Item
@@ -60,9 +63,13 @@ MayReply item reply.FaultFrame = uses_frames item ≡ true
 MayReply item reply.FaultMedium = is_of_volume item ≡ true
 MayReply item r = Unit {0}
 
--- the same files as before a packing, each with all of its slot but the start; or the volume before an item, or the one that it makes
+-- the files of a volume, each with all of its slot but the start, and what packing makes of it
+abbrev pub packs_as : ℕ → Option Volume → Option Shown × (Option Refusal × Option Volume)
+packs_as n volume = (files_shown n volume, repacked n volume)
+
+-- the same files as before a packing, which packs to the same; or the volume before an item, or the one that it makes
 abbrev pub EitherVolume : Item → HostState → HostState → Type 0
-EitherVolume (Asks Pack) s t = files_shown s.records (volume_at t) ≡ files_shown s.records (volume_at s)
+EitherVolume (Asks Pack) s t = packs_as s.records (volume_at t) ≡ packs_as s.records (volume_at s)
 EitherVolume item s t = (volume_at t ≡ volume_at s) ⊎ (volume_at t ≡ volume_behind item s)
 
 -- Without a fault, reply and volume are those of the item. After one, all of the command was done or nothing of it; of a tape whose
@@ -271,7 +278,30 @@ pub record KeepsDirectory (e : Event) : Type 0 where
   pub kept : IsKeptAfter e.item e.before.kept e.reply e.after.kept
   pub log : e.before.kept ≡ true → LogOfKept e.item e.reply e.before e.log
 
+-- What a command of the volume leaves of a tape that contracts can see, and which records it writes.
+pub record LeavesOnTape (e : Event) : Type 0 where
+  -- after ok nothing is left to settle or to finish
+  pub plain : is_of_volume e.item ≡ true → e.reply ≡ reply.Ok → (t u : Tape) → e.before.tape ≡ Some t → e.after.tape ≡ Some u
+      → IsPlain e.before.records u
+  -- A command that only reads, or is refused, settles the tape, and changes nothing else.
+  pub same : only_settles e.reply e.item ≡ true → (t u : Tape) → e.before.tape ≡ Some t → e.after.tape ≡ Some u → IsKeptTape e.item t u
+  -- Unless it first finishes a stopped packing, such a command writes nothing else, either.
+  pub writes : only_settles e.reply e.item ≡ true → (t : Tape) → e.before.tape ≡ Some t → finishes_first e.item e.before.records (volume_of t) ≡ false
+      → OnlySettling e.before.records (ring_of e.before.loop) e.log t
+  -- Unless it first finishes a stopped packing, one that changes the volume writes what settling writes, then its files, and then one commit.
+  pub commits : e.reply ≡ reply.Ok → only_reads e.item ≡ false → (t : Tape) → e.before.tape ≡ Some t → finishes_first e.item e.before.records (volume_of t) ≡ false
+      → CommitsFor e.item e.before.records (ring_of e.before.loop) e.log t
+  -- One that only reads changes nothing else if it faults, either: the tape still settles to the same, in all records except the gate.
+  pub reads : only_reads e.item ≡ true → (t u : Tape) → e.before.tape ≡ Some t → e.after.tape ≡ Some u → finishes_first e.item e.before.records (volume_of t) ≡ false
+      → SettlesAs (settled t) u
+  -- One that changes the volume makes this of the tape, and leaves all else below the redo file.
+  pub written : (t u : Tape) → e.before.tape ≡ Some t → e.after.tape ≡ Some u → IsWritten e.reply e.item e.before.records t u
+  -- `pack` of a packed volume settles the tape, and writes nothing else.
+  pub again : e.item ≡ Asks Pack → e.reply ≡ reply.Ok → (t u : Tape) → e.before.tape ≡ Some t → e.after.tape ≡ Some u → IsPackedOn e.before.records t
+      → (u ≡ settled t) × OnlySettling e.before.records (ring_of e.before.loop) e.log t
+
 -- what holds of each event
 pub record IsStep (plan : List Planned) (e : Event) : Type 0 where
   pub acts : Acts plan e
   pub directory : KeepsDirectory e
+  pub tape : LeavesOnTape e

@@ -3,11 +3,11 @@ use Rattle.std.specs.Prelude.{◌≡◌, ◌⊎◌, ℕ, true, false, List, [], 
 use Rattle.lif_model.specs.Stops.{LeavesOnly}
 use Rattle.lif_model.specs.Tape.{Tape}
 use Rattle.lif_model.specs.Volume.{is_foreign_gated}
-use Rattle.lif_model.specs.Packing.{finished_volume_of, files_shown}
+use Rattle.lif_model.specs.Packing.{finished_volume_of}
 use Rattle.host_model.specs.Requests.{OfVolume, Get, Pack, Item, Asks}
 use Rattle.host_model.specs.HostStates.{HostState, volume_at}
 use Rattle.host_model.specs.Replies.{volume_behind}
-use Rattle.host_model.specs.Steps.{Event, SettlesAlike}
+use Rattle.host_model.specs.Steps.{Event, SettlesAlike, packs_as}
 
 -- Where no open redo of the tape before would overwrite a file that is not ours, a stop within a command leaves one of which this holds,
 -- and that is so as well. Where one would, it leaves a tape that settles to the same, in all records but the gate.
@@ -22,7 +22,7 @@ MayBeLeft (Asks (OfVolume command)) s x =
     IsLeft s.tape x ((finished_volume_of x ≡ volume_at s) ⊎ (finished_volume_of x ≡ volume_behind (Asks (OfVolume command)) s))
 MayBeLeft (Asks (Get name)) s x = IsLeft s.tape x (finished_volume_of x ≡ volume_at s)
 MayBeLeft (Asks Pack) s x =
-    IsLeft s.tape x (files_shown s.records (finished_volume_of x) ≡ files_shown s.records (volume_at s))
+    IsLeft s.tape x (packs_as s.records (finished_volume_of x) ≡ packs_as s.records (volume_at s))
 MayBeLeft _ s x = s.tape ≡ Some x
 
 -- the same of all stops since the moment `before` at which the item began; earlier ones are told by `past`

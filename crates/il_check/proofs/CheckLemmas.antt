@@ -202,7 +202,7 @@ fails_out order first second ending.BadWords failed = tt
 fails_out order first second ending.NoImage failed = tt
 fails_out order first second ending.ImageTooLarge failed = tt
 
--- what is told of the tapes is no such ending
+-- an ending that compares the tapes is no failed insert
 pub fails_not : (k d n m : ℕ) (before after : Option Tape) (left now written written_now : Option (List ℕ)) (end : Ending) (order : Option CheckOrder) (first second : List ℕ → Type 0)
     → TellsOf k d n m before after left now written written_now end → CheckFailedBy end order first second
 fails_not k d n m before after left now written written_now ending.InsertFailed order first second t = absurd t.tells.says

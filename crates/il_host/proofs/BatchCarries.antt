@@ -28,10 +28,10 @@ use Rattle.lif_model.proofs.Parts.{AreUnrefused, each_file, files_within}
 use Rattle.lif_model.proofs.Transfers.{carries-later}
 use Rattle.lif_model.proofs.Writing.{AreEntries}
 use Rattle.lif_redo.specs.Writing.{run_of, runs_filed}
-use Rattle.lif_plan.specs.Plans.{version_for}
+use Rattle.lif_model.specs.Changing.{version_for, file_when}
 use Rattle.lif_plan.proofs.Planning.{version_is_redo}
 use Rattle.lif_volume.specs.Commands.{IsTold}
-use Rattle.lif_volume.specs.Changing.{commit_when, file_runs, file_when}
+use Rattle.lif_volume.specs.Changing.{commit_when, file_runs}
 use Rattle.lif_volume.specs.Did.{Alters}
 use Rattle.lif_volume.specs.Views.{VolumeView}
 use Rattle.lif_volume.specs.declared.fault.VolumeFault.{VolumeFault}

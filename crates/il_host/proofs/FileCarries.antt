@@ -33,11 +33,11 @@ use Rattle.lif_model.proofs.Redo.{data_place, redo_places}
 use Rattle.lif_model.proofs.StoredFile.{IsStorable, storable}
 use Rattle.lif_model.proofs.Transfers.{carries-first, carries-later, carries-nothing}
 use Rattle.lif_redo.specs.Writing.{AreSingle, run_of, writes_among}
-use Rattle.lif_plan.specs.Plans.{version_for}
+use Rattle.lif_model.specs.Changing.{version_for, file_when}
 use Rattle.lif_plan.proofs.Planning.{version_is_redo}
 use Rattle.lif_volume.specs.declared.volume.Fetched.{Fetched}
 use Rattle.lif_volume.specs.Commands.{EndsWithRead, FetchedFile, FetchesByRun, FetchesFile, IsTold, WritesBySettling}
-use Rattle.lif_volume.specs.Changing.{AddsCommit, commit_when, file_runs, file_when, writes_if_any}
+use Rattle.lif_volume.specs.Changing.{AddsCommit, commit_when, file_runs, writes_if_any}
 use Rattle.lif_volume.specs.Did.{Alters}
 use Rattle.lif_volume.specs.Views.{VolumeView}
 use Rattle.il_script.specs.declared.reply.Reply.TheVariants as reply

@@ -24,7 +24,8 @@ use Rattle.lif_volume.specs.declared.fault.VolumeFault.{VolumeFault}
 use Rattle.lif_volume.specs.declared.fault.VolumeFault.TheVariants.{Refused, Trouble as Troubled}
 use Rattle.lif_volume.proofs.Gated.{held_settled}
 use Rattle.lif_model.specs.Packing.{bears_mark, has_mark, finished, finished_volume, finished_volume_of, marked_count, marked_slot, redo_slot}
-use Rattle.lif_pack.specs.Tasks.{IsFinished, IsShownAs}
+use Rattle.lif_pack.specs.Tasks.{IsShownAs}
+use Rattle.lif_model.specs.Finished.{IsFinished}
 use Rattle.lif_pack.proofs.Finishes.{finished_shape, finished_unmarked, finishes, unmarked_volume}
 use Rattle.lif_pack.proofs.Stopped.{upgraded_not_held}
 use Rattle.lif_pack.proofs.Unmarked.{clear_behind}
@@ -34,6 +35,7 @@ use Rattle.host_model.specs.Requests.{Asks, Item, OfVolume}
 use Rattle.host_model.specs.LoopStates.{ring_of}
 use Rattle.host_model.specs.HostStates.{HostState}
 use Rattle.host_model.specs.Directories.{AsksLittle, IsKeptBehind}
+use Rattle.il_host.proofs.LeftTapes.{TapeLeftFirst, left_failed, left_first}
 use Rattle.il_host.specs.HostView.{calls_to_pack, calls_to_prepare, most_beside, records_asked}
 use Rattle.il_host.specs.Hosts.{IsUnmarked}
 use Rattle.il_host.specs.Preparing.{Finishes}
@@ -97,6 +99,7 @@ pub record MindsFirst {R S T : Type 0} (view : R → RecordsView S) (x y : Volum
       + (directory_records (finished t) + records_asked (Asks (OfVolume command)) (finished t) + 160 + calls_to_prepare (view x.records).record_count (volume_of t))
   pub from_kept : (t : Tape) → (view x.records).tape ≡ Some t → is_some x.kept ≡ true → (view x.records).calls_left + 1 ≤ (view y.records).calls_left + (records_asked (Asks (OfVolume command)) (finished t) + most_beside (Asks (OfVolume command)))
   pub unmarked : IsUnmarked view y
+  pub tape : TapeLeftFirst view x y command answer
 
 -- ---- a packing is finished between m and f, or none is to be, and then comes the command
 
@@ -283,6 +286,7 @@ module _ {R S : Type 0} (view : R → RecordsView S) (m f n : VolumeView R) (law
       unmarked = λ c now on.
           let t = told_still (view n.records).tape (view m.records).tape c (sym told_so) now in
           ap (λ (k : ℕ). has_mark k (volume_of c)) size_n ∙ (clear_now t.0 t.1 turns c now).0;
+      tape = left_first view m f n command size (λ t told. ((law m.records).is_tape t told).records) first.finished (λ t told off. (first.writes t told off).1) answer minds.tape;
     }
 
   -- what the two leave of the store
@@ -313,6 +317,7 @@ module _ {R S : Type 0} (view : R → RecordsView S) (m f : VolumeView R) (law :
     on_tape = on_tape;
     from_kept = λ t told on. let clash : true ≡ false = sym on ∙ off in cc;
     unmarked = λ c now on. let clash : true ≡ false = sym on ∙ off_now in cc;
+    tape = left_failed (Unit {0}) view m f command e (λ t told off. (fails.writes t told off).0);
   }
     where
       on_tape : (t : Tape) → IsTold view m t → (view m.records).calls_left ≤ (view f.records).calls_left

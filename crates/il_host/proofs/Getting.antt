@@ -23,8 +23,9 @@ use Rattle.host_model.specs.LoopStates.{LoopState, all_roles, device_count, ring
 use Rattle.host_model.specs.HostStates.{HostState, volume_at}
 use Rattle.host_model.specs.Next.{BoxedBecome, DeviceBehind, Next, StatusBehindVolume}
 use Rattle.host_model.specs.Replies.{got_as, if_text, lines_of_file, lines_text, refused_as, reply_text}
-use Rattle.host_model.specs.Steps.{EitherVolume, Event, Exchanged, HasReplyCause, HearsLog, IsCarried, Acts, IsStep, KeepsDirectory, Replied, TellsReply, Travels, is_fault, is_frame_fault, event}
+use Rattle.host_model.specs.Steps.{EitherVolume, Event, Exchanged, HasReplyCause, HearsLog, IsCarried, Acts, IsStep, KeepsDirectory, LeavesOnTape, Replied, TellsReply, Travels, is_fault, is_frame_fault, event}
 use Rattle.host_model.specs.Stops.{MayBeLeft}
+use Rattle.host_model.proofs.Tapes.{tape_faulted}
 use Rattle.il_host.specs.HostView.{HostView, Performed}
 use Rattle.il_host.specs.Standings.{fault_of, volume_reply}
 
@@ -37,6 +38,13 @@ Lines = Option (List (List ℕ))
 abbrev got : Reply → Lines → Reply
 got reply.Ok lines = if_text lines
 got r lines = r
+
+-- such a reply is not ok
+never_ok : (r : Reply) → is_ok r ≡ false → r ≡ reply.Ok → (A : Type 0) → A
+never_ok r off is A = let clash : false ≡ true = sym off ∙ ap is_ok is in absurd (false_no clash)
+  where
+    false_no : false ≡ true → ⊥
+    false_no clash = cc
 
 frame_same : (r : Reply) (lines : Lines) → is_frame_fault (got r lines) ≡ is_frame_fault r
 frame_same reply.Ok None = refl
@@ -171,9 +179,16 @@ module _ (name : List ℕ) (log : List Entry) (s t : HostState) where
   kept_got (reply.No code) lines so = record { kept = so.kept; log = λ on. inl (so.log on) }
   kept_got _ lines so = record { kept = so.kept; log = λ on. tt }
 
+  tape_got : (r : Reply) (lines : Lines) → LeavesOnTape (fetching name r log s t) → LeavesOnTape (getting name (got r lines) log s t)
+  tape_got reply.Ok None so = record { plain = λ of ok. cc; same = λ on. so.same refl; writes = λ on. so.writes refl; reads = λ on. so.reads refl; commits = λ ok changes t was off. tt; written = λ x y was now. tt; again = λ is. cc }
+  tape_got reply.Ok (Some lines) so = record { plain = λ of ok. so.plain refl refl; same = λ on. so.same refl; writes = λ on. so.writes refl; reads = λ on. so.reads refl; commits = λ ok changes t was off. tt; written = λ x y was now. tt; again = λ is. cc }
+  tape_got (reply.No code) lines so = record { plain = λ of ok. cc; same = λ on. so.same refl; writes = λ on. so.writes refl; reads = λ on. so.reads refl; commits = λ ok changes t was off. tt; written = λ x y was now. tt; again = λ is. cc }
+  tape_got reply.FaultFrame lines so = tape_faulted (getting name reply.FaultFrame log s t) refl (λ on. so.reads refl)
+  tape_got reply.FaultMedium lines so = tape_faulted (getting name reply.FaultMedium log s t) refl (λ on. so.reads refl)
+
   step_got : (r : Reply) (lines : Lines) (plan : List Planned) → (r ≡ reply.Ok → TellsReply (Asks (Get name)) s → lines ≡ lines_of_file name (volume_at s))
       → IsStep plan (fetching name r log s t) → IsStep plan (getting name (got r lines) log s t)
-  step_got r lines plan same so = record { acts = acts_got r lines plan same so.acts; directory = kept_got r lines so.directory }
+  step_got r lines plan same so = record { acts = acts_got r lines plan same so.acts; directory = kept_got r lines so.directory; tape = tape_got r lines so.tape }
 
 -- ---- a host
 
@@ -197,10 +212,10 @@ module _ (name : List ℕ) (v w : HostView) where
 
   -- a fetch that was refused, or faulted
   pub not_got : (r : Reply) → is_ok r ≡ false → Performed (Asks (OfVolume (Fetch name))) r v w → Performed (Asks (Get name)) r v w
-  not_got reply.Ok not_ok so = cc
-  not_got (reply.No code) not_ok so = behind_got (reply.No code) None w.text (λ ok. cc) so.text so
-  not_got reply.FaultFrame not_ok so = behind_got reply.FaultFrame None w.text (λ ok. cc) so.text so
-  not_got reply.FaultMedium not_ok so = behind_got reply.FaultMedium None w.text (λ ok. cc) so.text so
+  not_got reply.Ok not_ok so = never_ok reply.Ok not_ok refl _
+  not_got (reply.No code) not_ok so = behind_got (reply.No code) None w.text (λ ok. never_ok _ refl ok _) so.text so
+  not_got reply.FaultFrame not_ok so = behind_got reply.FaultFrame None w.text (λ ok. never_ok _ refl ok _) so.text so
+  not_got reply.FaultMedium not_ok so = behind_got reply.FaultMedium None w.text (λ ok. never_ok _ refl ok _) so.text so
 
   -- a fetch with ok, of a file with these lines, or of one that is no text
   pub got_lines : (lines : Lines) → (TellsReply (Asks (Get name)) v.state → lines ≡ lines_of_file name (volume_at v.state))

@@ -1,6 +1,6 @@
 -- The commands that tell a label or the bytes of a file, as a host performs them.
 use Rattle.std.proofs.Common.{◌≡◌, ◌≤◌, ◌+◌, ◌++◌, ◌∙◌, ℕ, List, map, take, Option, Some, None, refl, sym, ap, arith}
-use Rattle.std.specs.Prelude.{Result, Ok, Err, IfSome, length, option_map, unwrap_or}
+use Rattle.std.specs.Prelude.{Result, Ok, Err, IfSome, option_map, unwrap_or}
 use Rattle.std.specs.FinMap.{empty}
 use Rattle.lif_dir.specs.Entries.{slot_bytes}
 use Rattle.lif_model.specs.Tape.{Tape}
@@ -124,21 +124,21 @@ module _ {M I : Type 0} {D : I → Type 0} (view : M → MediumView) (seen : Rin
   listed listing lines before did text =
       let turns = reads_turn Dir (store_in view seen) (volume_in f) (volume_in n) (Ok listing) did in
       read_done listing Dir _ _ before lines (few_mounting did.consults.goes_on.continues.size) did.consults did.answers turns.0 turns.1 tt
-      (minds_dir (store_in view seen) (volume_in f) (volume_in n) (Ok listing) did.consults) text
+      (minds_dir (store_in view seen) (volume_in f) (volume_in n) (Ok listing) did.consults did.transfers did.settling) text
 
   pub not_listed : (fault : VolumeFault) (before : List ℕ) → Reads {T = Listing} Dir (store_in view seen) (volume_in f) (volume_in n) (Err fault)
       → Performed (Asks (OfVolume Dir)) (volume_reply {T = Unit {0}} (Err fault)) (host_in view seen o before text_space space) (host_in view seen n (reply_line (volume_reply {T = Unit {0}} (Err fault))) text_space space)
   not_listed fault before did =
       let turns = reads_turn {T = Listing} Dir (store_in view seen) (volume_in f) (volume_in n) (Err fault) did in
       read_refused Listing fault Dir _ _ before (few_mounting did.consults.goes_on.continues.size) did.consults did.answers turns.0 turns.1
-      (minds_dir {T = Listing} (store_in view seen) (volume_in f) (volume_in n) (Err fault) did.consults)
+      (minds_dir {T = Listing} (store_in view seen) (volume_in f) (volume_in n) (Err fault) did.consults did.transfers did.settling)
 
   pub labelled : (label before : List ℕ) → Reads Label (store_in view seen) (volume_in f) (volume_in n) (Ok label) → IsRefusedExactly (store_in view seen) (volume_in f) (Ok label) → Labels (store_in view seen) (volume_in f) label
       → Performed (Asks (OfVolume Label)) reply.Ok (host_in view seen o before text_space space) (host_in view seen n (label_text label ++ reply_line reply.Ok) text_space space)
   labelled label before did exactly labels =
       let turns = reads_turn Label (store_in view seen) (volume_in f) (volume_in n) (Ok label) did in
       read_done label Label _ _ before (label_text label) (few_mounting did.consults.goes_on.continues.size) did.consults did.answers turns.0 turns.1 tt
-      (minds_label (store_in view seen) (volume_in f) (volume_in n) (Ok label) did.consults)
+      (minds_label (store_in view seen) (volume_in f) (volume_in n) (Ok label) did.consults did.transfers did.settling)
       (λ t told. label_told (store_in view seen) (volume_in f) (volume_in n) t told label exactly labels)
 
   pub not_labelled : (fault : VolumeFault) (before : List ℕ) → Reads {T = List ℕ} Label (store_in view seen) (volume_in f) (volume_in n) (Err fault)
@@ -146,7 +146,7 @@ module _ {M I : Type 0} {D : I → Type 0} (view : M → MediumView) (seen : Rin
   not_labelled fault before did =
       let turns = reads_turn {T = List ℕ} Label (store_in view seen) (volume_in f) (volume_in n) (Err fault) did in
       read_refused (List ℕ) fault Label _ _ before (few_mounting did.consults.goes_on.continues.size) did.consults did.answers turns.0 turns.1
-      (minds_label {T = List ℕ} (store_in view seen) (volume_in f) (volume_in n) (Err fault) did.consults)
+      (minds_label {T = List ℕ} (store_in view seen) (volume_in f) (volume_in n) (Err fault) did.consults did.transfers did.settling)
 
   -- the bytes that are told are the file's
   pub fetched : (name : List ℕ) (file : Fetched) (into shown before : List ℕ) → shown ≡ take file.length into
@@ -160,7 +160,7 @@ module _ {M I : Type 0} {D : I → Type 0} (view : M → MediumView) (seen : Rin
       (shows_prepared view seen o b f text_space space usable began law p n (Fetch name) opens low before)
       (some_prepared view seen o b f text_space space usable began law p)
       name into file fetches run did.transfers)
-      (minds_fetched (store_in view seen) (volume_in f) (volume_in n) name file into opened did.consults fetches run)
+      (minds_fetched (store_in view seen) (volume_in f) (volume_in n) name file into opened did.consults fetches run did.transfers did.settling)
       (λ t told. data_told (store_in view seen) (volume_in f) (volume_in n) t told name file into fetches ∙ ap (data_text file.kind file.implementation) (sym is))
 
   -- it was refused, or the store failed
@@ -169,4 +169,4 @@ module _ {M I : Type 0} {D : I → Type 0} (view : M → MediumView) (seen : Rin
   not_fetched name fault before did =
       let turns = reads_turn {T = Fetched} (Fetch name) (store_in view seen) (volume_in f) (volume_in n) (Err fault) did in
       read_refused Fetched fault (Fetch name) _ _ before (fetching_few {T = Fetched} (store_in view seen) (volume_in f) name (Err fault) opened) did.consults did.answers turns.0 turns.1
-      (minds_not_fetched {T = Fetched} (store_in view seen) (volume_in f) (volume_in n) name fault opened did.consults)
+      (minds_not_fetched {T = Fetched} (store_in view seen) (volume_in f) (volume_in n) name fault opened did.consults did.transfers did.settling)

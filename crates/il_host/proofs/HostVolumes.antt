@@ -40,7 +40,18 @@ use Rattle.host_model.specs.Requests.{Asks, Item, OfVolume, is_of_volume, reques
 use Rattle.host_model.specs.HostStates.{HostState, log_room, text_room, volume_at}
 use Rattle.host_model.specs.Replies.{reply_text, told_of}
 use Rattle.host_model.specs.Directories.{IsKeptBehind}
-use Rattle.host_model.specs.Steps.{Event, KeepsDirectory, TellsReply}
+use Rattle.host_model.specs.Steps.{Event, KeepsDirectory, LeavesOnTape, TellsReply}
+use Rattle.lif_model.specs.Finished.{IsPlain}
+use Rattle.host_model.specs.Tapes.{CommitsOnly, IsWritten}
+use Rattle.host_model.proofs.Tapes.{is_fault, tape_faulted, tape_other}
+use Rattle.lif_model.specs.Redo.{redo_of, settled}
+use Rattle.lif_model.specs.Changing.{changes_filed}
+use Rattle.lif_redo.specs.Writing.{writes_among}
+use Rattle.host_model.specs.LoopStates.{ring_of}
+use Rattle.lif_model.specs.Commit.{IsSettleWrite, SettlesAs}
+use Rattle.lif_model.proofs.Commit.{settles_self}
+use Rattle.il_ports.specs.Transfers.{WritesOnly}
+use Rattle.il_host.proofs.LeftTapes.{one_tape, plain_kept}
 use Rattle.host_model.proofs.Steps.{ring_stays}
 use Rattle.il_host.specs.HostView.{HostView, Performed, TakesAtMost, calls_behind, calls_to_pack, calls_to_prepare, is_packing, most_beside, records_asked}
 use Rattle.il_host.specs.Hosts.{HasSpaceFor, Space, IsUnmarked, IsUsable, host_in, loop_in, store_in, volume_in}
@@ -53,12 +64,12 @@ use Rattle.il_host.proofs.Texts.{ok_text}
 use Rattle.il_host.proofs.VolumeCarries.{CarriesAs, IsFormedAs, none_carried, not_carried}
 use Rattle.il_host.proofs.VolumeCommands.{KeepsRing}
 use Rattle.il_host.proofs.VolumePerforms.{Performs, volume_asked, volume_failed, volume_not_asked}
-use Rattle.il_host.proofs.KeptDirectories.{TellsNothing, forgets_it, kept_before, some_beside, sound_kept, still_kept, told_log}
+use Rattle.il_host.proofs.KeptDirectories.{TellsNothing, forgets_it, is_commit, kept_before, ok_is_kept, some_beside, sound_kept, still_kept, told_log}
 use Rattle.il_host.proofs.FinishedFirst.{MindsFirst}
 use Rattle.il_host.proofs.Sounding.{acts_keeping, keeping, stops_keeping}
 use Rattle.il_host.proofs.VolumeStarts.{Emptied, volume_begun}
 use Rattle.il_host.proofs.VolumeAsked.{asked_seen, asked_transferred}
-use Rattle.il_host.proofs.VolumeReplied.{AnswersSo, IsSeenAs, seen_as, told_tape, TurnsSo}
+use Rattle.il_host.proofs.VolumeReplied.{AnswersSo, IsSeenAs, broke_quiet, tape_still, seen_as, told_tape, TurnsSo}
 use Rattle.il_frames.specs.declared.entry.Entry.{Entry}
 
 -- ---- room
@@ -255,7 +266,7 @@ module _ {M I : Type 0} {D : I → Type 0} (view : M → MediumView) (seen : Rin
     pub performed : (item : Item) (answered : Reply) (before after : List ℕ) → (store_in view seen n.records).record_count ≡ count
         → Performs view seen o.records.ring n.records.ring item answered (loop_in seen o.records) (loop_in seen n.records) → KeepsDirectory (event_kept item answered)
         → (TellsReply item (host_in view seen o before text_space space).state → after ≡ reply_text item (host_in view seen o before text_space space).state ((loop_in seen n.records).ring.books.log) answered)
-        → (is_of_volume item ≡ true → TookFew item × IsUnmarked (store_in view seen) (volume_in n))
+        → (is_of_volume item ≡ true → TookFew item × IsUnmarked (store_in view seen) (volume_in n) × LeavesOnTape (event_kept item answered))
         → Performed item answered (host_in view seen o before text_space space) (host_in view seen n after text_space space)
     performed item answered before after size did directory text few = record {
       valid = usable_behind size did.keeps (short_behind _ did.step usable.short) sound unmarked;
@@ -264,6 +275,7 @@ module _ {M I : Type 0} {D : I → Type 0} (view : M → MediumView) (seen : Rin
         acts = acts_keeping ((loop_in seen o.records).ring.books.plan) (event_at view item answered (loop_in seen o.records) (loop_in seen n.records)) (is_some o.kept) (is_some n.kept)
             (λ none. still_kept item (is_some o.kept) answered (is_some n.kept) none directory.kept) did.step;
         directory = directory;
+        tape = tape;
       };
       text = text;
       stops = stops_keeping (event_at view item answered (loop_in seen o.records) (loop_in seen n.records)) (is_some o.kept) (is_some n.kept) _ _ _ _ did.stops;
@@ -294,6 +306,13 @@ module _ {M I : Type 0} {D : I → Type 0} (view : M → MediumView) (seen : Rin
             did.step.sound (λ none. ap (λ (s : HostState). s.sound) (did.step.still none).1)
             usable.kept directory.kept on
 
+        tape : LeavesOnTape (event_kept item answered)
+        tape = by (is_of_volume item) refl
+          where
+            by : (of : Bool) → is_of_volume item ≡ of → LeavesOnTape (event_kept item answered)
+            by true is = (few is).2
+            by false other = tape_other (event_kept item answered) other
+
         -- an item that is not of the volume leaves the tape
         unmarked : IsUnmarked (store_in view seen) (volume_in n)
         unmarked = by (is_of_volume item) refl
@@ -318,6 +337,15 @@ module _ {M I : Type 0} {D : I → Type 0} (view : M → MediumView) (seen : Rin
   pub forgotten_unsound : (e : Trouble) → StaysUnsound view seen b n e → is_some n.kept ≡ false
   forgotten_unsound e stays = ap is_some (stays.kept ∙ ap (λ sound. if sound then b.kept else None) (unsound e (loop_in seen n.records) stays.makes))
 
+  -- and the tape is as it was
+  unsound_tape : (e : Trouble) → StaysUnsound view seen b n e → (state_at view (loop_in seen n.records)).tape ≡ (state_at view (loop_in seen o.records)).tape
+  unsound_tape e stays =
+      let emptied = volume_begun view seen o.records.ring b.records.ring (loop_in seen o.records) (loop_in seen b.records) usable.volume_open.valid refl refl began in
+      let still = broke_quiet view seen b.records.ring n.records.ring (loop_in seen b.records) (loop_in seen n.records) emptied.stands (Unit {0}) e stays.makes in
+      tape_still (Asks (OfVolume Dir)) (store_in view seen b.records) (store_in view seen n.records) (state_at view (loop_in seen b.records)) (state_at view (loop_in seen n.records)) [] (seen_as view seen b.records.ring (loop_in seen b.records))
+      (seen_as view seen n.records.ring (loop_in seen n.records)) still
+      ∙ ap (λ (s : HostState). s.tape) emptied.state
+
   module _ (command : VolumeCommand) (opens : IsOpen (store_in view seen) (volume_in n)) (low : HasDriveStatus (loop_in seen n.records).ring) where
     -- and the volume was not asked
     pub not_asked : (e : Trouble) (before : List ℕ) → ((m : M) → IsMedium (view m)) → StaysUnsound view seen b n e
@@ -327,6 +355,7 @@ module _ {M I : Type 0} {D : I → Type 0} (view : M → MediumView) (seen : Rin
         let used = stays.sounds.left in
         let left : 1 ≤ (store_in view seen n.records).calls_left = let enough = begun_left in omega (arith, enough, used) in
         let off = forgotten_unsound e stays in
+        let same = unsound_tape e stays in
         let did = volume_not_asked view seen o.records.ring b.records.ring n.records.ring command (loop_in seen o.records) (loop_in seen b.records) (loop_in seen n.records)
         usable.volume_open.valid refl refl began usable.log low left (Unit {0}) e store stays.makes in
         performed opens (Asks (OfVolume command)) (fault_of e) before (reply_line (fault_of e)) (stays.sounds.size ∙ began.size)
@@ -337,6 +366,8 @@ module _ {M I : Type 0} {D : I → Type 0} (view : M → MediumView) (seen : Rin
         (λ is. (
           (omega (arith, used), λ other t told. omega (arith, used), λ other t told on. omega (arith, used, some_beside (Asks (OfVolume command)))),
           λ t told on. let clash : true ≡ false = sym on ∙ off in cc,
+          tape_faulted (event_kept opens (Asks (OfVolume command)) (fault_of e)) (ap (λ x. is_fault (fault_of x)) did.0)
+              (λ on t u was now none. subst (SettlesAs (settled t)) (one_tape (state_at view (loop_in seen n.records)).tape t u (same ∙ was) now) (settles_self t)),
         ))
 
     -- the store was made sound as m, and the volume was asked
@@ -376,6 +407,7 @@ module _ {M I : Type 0} {D : I → Type 0} (view : M → MediumView) (seen : Rin
               λ other t told on. omega (arith, sounds.left, minds.from_kept t (at_asked t told) (same ∙ on)),
             ),
             minds.unmarked,
+            tape ran,
           ))
         where
           prepares : (t : Tape) → calls_to_prepare (store_in view seen m.records).record_count (volume_of t) ≡ calls_to_prepare count (volume_of t)
@@ -425,6 +457,47 @@ module _ {M I : Type 0} {D : I → Type 0} (view : M → MediumView) (seen : Rin
           empty on =
               let still : loop_in seen m.records ≡ loop_in seen b.records = subst (λ sound. MakesSoundBy view sound (loop_in seen b.records) (loop_in seen m.records) (Ok u)) (emptied.sound ∙ usable.kept on) makes in
               ap (λ (l : LoopView M). l.ring.books.log) still ∙ emptied.log
+
+          size_asked : (store_in view seen m.records).record_count ≡ count
+          size_asked = sounds.size ∙ began.size
+
+          told_behind : (x : Tape) → (state_at view (loop_in seen n.records)).tape ≡ Some x → (store_in view seen n.records).tape ≡ Some x
+          told_behind x after = sym (seen_as view seen n.records.ring (loop_in seen n.records)).tape ∙ after
+
+          tape : Performs view seen o.records.ring n.records.ring (Asks (OfVolume command)) (volume_reply answer) (loop_in seen o.records) (loop_in seen n.records)
+              → LeavesOnTape (event_kept opens (Asks (OfVolume command)) (volume_reply answer))
+          tape ran = record {
+            plain = λ of ok x y was now.
+                subst (λ k. IsPlain k y) (goes.continues.size ∙ size_asked)
+                (plain_kept (store_in view seen) (volume_in n) opens minds.unmarked (ok_is_kept command (is_some m.kept) (volume_reply answer) (is_some n.kept) minds.kept ok) y (told_behind y now));
+            same = λ on x y was now. minds.tape.same on x y (at_asked x was) (told_behind y now);
+            writes = λ on x was off.
+                let ring = ring_stays _ (state_at view (loop_in seen o.records)).loop (state_at view (loop_in seen n.records)).loop ran.step.next.devices in
+                let more = (minds.tape.writes on x (at_asked x was) (ap (λ k. has_mark k (volume_of x)) size_asked ∙ off)).goes_on [] none_asked in
+                record {
+                  list = more.0;
+                  transferred = subst (λ l. Transferred l ((loop_in seen n.records).ring.books.log) more.0) ring (told_log view seen n.records.ring (loop_in seen n.records) more.0 more.1);
+                  only = subst (λ k. WritesOnly (IsSettleWrite k (redo_of x)) more.0) size_asked more.2;
+                };
+            reads = λ on x y was now off. minds.tape.reads on x y (at_asked x was) (told_behind y now) (ap (λ k. has_mark k (volume_of x)) size_asked ∙ off);
+            commits = λ ok changes x was off.
+                let ring = ring_stays _ (state_at view (loop_in seen o.records)).loop (state_at view (loop_in seen n.records)).loop ran.step.next.devices in
+                let all = (minds.tape.commits ok changes x (at_asked x was) (ap (λ k. has_mark k (volume_of x)) size_asked ∙ off)).goes_on [] none_asked in
+                subst (λ k. CommitsOnly command k (ring_of (state_at view (loop_in seen o.records)).loop) ((loop_in seen n.records).ring.books.log) x) size_asked (record {
+                  first = all.0;
+                  rest = all.1;
+                  transferred = subst (λ l. Transferred l ((loop_in seen n.records).ring.books.log) (all.0 ++ all.1)) ring (told_log view seen n.records.ring (loop_in seen n.records) (all.0 ++ all.1) all.2);
+                  settles = all.3;
+                  commits = record {
+                    more = all.5.more;
+                    are = all.5.are;
+                    single = all.5.single;
+                    commit = is_commit _ _ _ (changes_filed (store_in view seen m.records).record_count command (volume_of x) (settled x)) (writes_among all.5.more) all.5.writes;
+                  };
+                });
+            written = λ x y was now. subst (λ k. IsWritten (volume_reply answer) (Asks (OfVolume command)) k x y) size_asked (minds.tape.written x y (at_asked x was) (told_behind y now));
+            again = λ is. cc;
+          }
 
           directory : Performs view seen o.records.ring n.records.ring (Asks (OfVolume command)) (volume_reply answer) (loop_in seen o.records) (loop_in seen n.records)
               → KeepsDirectory (event_kept opens (Asks (OfVolume command)) (volume_reply answer))

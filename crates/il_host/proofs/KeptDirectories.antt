@@ -31,8 +31,9 @@ use Rattle.loop_model.specs.Loops.{Loop}
 use Rattle.il_ring.specs.Rings.{RingView}
 use Rattle.il_record.specs.LoopStores.{LoopView, view_of}
 use Rattle.lif_volume.specs.Views.{VolumeView, IsOpen, IsDirectoryOf}
-use Rattle.lif_volume.specs.Commands.{Consults, EndsWithRead, FetchesByRun, FetchesFile, directory_records, fetching, fetching_on, mounting, mounting_on, reading, records_named}
-use Rattle.lif_volume.specs.Changing.{writes_if_any, carrying, changing, changes_filed, files_when, keeps_behind_command}
+use Rattle.lif_volume.specs.Commands.{OnlySettles, WritesBySettling, Consults, EndsWithRead, FetchesByRun, FetchesFile, directory_records, fetching, fetching_on, mounting, mounting_on, reading, records_named}
+use Rattle.lif_volume.specs.Changing.{writes_if_any, carrying, changing, keeps_behind_command}
+use Rattle.lif_model.specs.Changing.{changes_filed, files_when}
 use Rattle.lif_volume.specs.Did.{Alters}
 use Rattle.lif_volume.specs.declared.fault.VolumeFault.{VolumeFault}
 use Rattle.lif_volume.specs.declared.fault.VolumeFault.TheVariants.{Refused, Trouble as Troubled}
@@ -49,6 +50,8 @@ use Rattle.host_model.specs.HostStates.{HostState}
 use Rattle.host_model.specs.Steps.{is_fault}
 use Rattle.host_model.specs.Directories.{AsksLittle, HasFilesAndCommit, HasOnly, HasTransfers, AreFilesAndCommit, IsCommitOf, IsKeptAfter, IsKeptBehind, LogOfKept, has_volume, run_read}
 use Rattle.host_model.proofs.RingStates.{ring_on}
+use Rattle.host_model.specs.Tapes.{only_reads}
+use Rattle.il_host.proofs.LeftTapes.{TapeLeft, left_altered, left_read}
 use Rattle.il_host.specs.HostView.{most_beside, records_asked}
 use Rattle.il_host.proofs.LoopEvents.{IsOfLoop}
 use Rattle.il_host.specs.Standings.{fault_of, state_at, volume_reply}
@@ -77,6 +80,14 @@ refused_kept _ _ was _ now is = is
 ok_kept : {T : Type 0} (x : T) (command : VolumeCommand) (was now : Bool) → now ≡ keeps_behind_command command was (Ok x) → IsKeptBehind command was reply.Ok now
 ok_kept x Dir was now is = is
 ok_kept x _ was now is = is
+
+-- behind ok it is kept
+pub ok_is_kept : (command : VolumeCommand) (was : Bool) (r : Reply) (now : Bool) → IsKeptBehind command was r now → r ≡ reply.Ok → now ≡ true
+ok_is_kept command was r now is ok = by command (subst (λ q. IsKeptBehind command was q now) ok is)
+  where
+    by : (command : VolumeCommand) → IsKeptBehind command was reply.Ok now → now ≡ true
+    by Dir is = is
+    by _ is = is
 
 -- a fault forgets it
 pub forgets_it : (command : VolumeCommand) (was : Bool) (e : Trouble) → IsKeptBehind command was (fault_of e) false
@@ -200,6 +211,7 @@ pub record Minds {R S T : Type 0} (view : R → RecordsView S) (x y : VolumeView
       → ((list : List Transfer) → (view y.records).transferred list → Transferred (ring_of s.loop) log list) → AsksLittle command (volume_reply answer) s log
   pub on_tape : (t : Tape) → (view x.records).tape ≡ Some t → (view x.records).calls_left ≤ (view y.records).calls_left + (directory_records (settled t) + records_asked (Asks (OfVolume command)) (settled t) + 143)
   pub from_kept : (t : Tape) → (view x.records).tape ≡ Some t → is_some x.kept ≡ true → (view x.records).calls_left + 1 ≤ (view y.records).calls_left + (records_asked (Asks (OfVolume command)) (settled t) + most_beside (Asks (OfVolume command)))
+  pub tape : TapeLeft view x y command answer
 
 pub some_beside : (item : Item) → 12 ≤ most_beside item
 some_beside (Asks (OfVolume Dir)) = omega arith
@@ -226,7 +238,7 @@ none_mounted t None on = cc
 -- ---- those that read the directory alone
 
 module _ {R S T : Type 0} (view : R → RecordsView S) (x y : VolumeView R) (answer : Result T VolumeFault)
-    (consults : Consults (mounting (view x.records).record_count x.kept y.kept) (λ t. mounting_on t x.kept) view x y answer) where
+    (consults : Consults (mounting (view x.records).record_count x.kept y.kept) (λ t. mounting_on t x.kept) view x y answer) (transfers : WritesBySettling view x y answer) (settling : OnlySettles view x y) where
   still : is_some x.kept ≡ true → y.records ≡ x.records
   still on = consults.idle (by x.kept on)
     where
@@ -241,14 +253,14 @@ module _ {R S T : Type 0} (view : R → RecordsView S) (x y : VolumeView R) (ans
   few_on t told = omega (arith, consults.few t told, few_mounted t x.kept)
 
   pub minds_dir : Minds view x y Dir answer
-  minds_dir = record { kept = kept_as Dir (is_some x.kept) answer (is_some y.kept) consults.kept; log = λ on first s log tape size none told. by answer s log (none (still on)); on_tape = few_on; from_kept = few_kept }
+  minds_dir = record { kept = kept_as Dir (is_some x.kept) answer (is_some y.kept) consults.kept; log = λ on first s log tape size none told. by answer s log (none (still on)); on_tape = few_on; from_kept = few_kept; tape = left_read view x y Dir refl answer consults.settles transfers settling }
     where
       by : (answer : Result T VolumeFault) (s : HostState) (log : List Entry) → log ≡ [] → AsksLittle Dir (volume_reply answer) s log
       by (Ok a) s log none = λ t v told of. none
       by (Err fault) s log none = by_fault T Dir fault s log (λ why is. none)
 
   pub minds_label : Minds view x y Label answer
-  minds_label = record { kept = kept_as Label (is_some x.kept) answer (is_some y.kept) consults.kept; log = λ on first s log tape size none told. by answer s log (none (still on)); on_tape = few_on; from_kept = few_kept }
+  minds_label = record { kept = kept_as Label (is_some x.kept) answer (is_some y.kept) consults.kept; log = λ on first s log tape size none told. by answer s log (none (still on)); on_tape = few_on; from_kept = few_kept; tape = left_read view x y Label refl answer consults.settles transfers settling }
     where
       by : (answer : Result T VolumeFault) (s : HostState) (log : List Entry) → log ≡ [] → AsksLittle Label (volume_reply answer) s log
       by (Ok a) s log none = λ t v told of. none
@@ -277,7 +289,7 @@ same_volume : (a b : Volume) (volume : Option Volume) → volume ≡ Some a → 
 same_volume a b volume one two = let both : Some a ≡ Some b = sym one ∙ two in cc
 
 module _ {R S T : Type 0} (view : R → RecordsView S) (x y : VolumeView R) (name : List ℕ) (answer : Result T VolumeFault) (opens : IsOpen view x)
-    (consults : Consults (fetching (view x.records).record_count name x.kept (map slot_bytes x.slots) answer) (λ t. fetching_on t name x.kept answer) view x y answer) where
+    (consults : Consults (fetching (view x.records).record_count name x.kept (map slot_bytes x.slots) answer) (λ t. fetching_on t name x.kept answer) view x y answer) (transfers : WritesBySettling view x y answer) (settling : OnlySettles view x y) where
   fetch_few_on : (t : Tape) → (view x.records).tape ≡ Some t → (view x.records).calls_left ≤ (view y.records).calls_left + (directory_records (settled t) + records_named (slots_of (settled t)) name + 143)
   fetch_few_on t told = omega (arith, consults.few t told, few_mounted t x.kept, reading_few (slots_of (settled t)) name answer)
 
@@ -299,13 +311,14 @@ module _ {R S T : Type 0} (view : R → RecordsView S) (x y : VolumeView R) (nam
     log = λ on first s entries tape size none told. log on first s entries tape none told;
     on_tape = fetch_few_on;
     from_kept = fetch_few_kept;
+    tape = left_read view x y (Fetch name) refl answer consults.settles transfers settling;
   }
 
 -- it was refused, or the store failed
 pub minds_not_fetched : {R S T : Type 0} (view : R → RecordsView S) (x y : VolumeView R) (name : List ℕ) (fault : VolumeFault) → IsOpen view x
-    → Consults {T = T} (fetching {T = T} (view x.records).record_count name x.kept (map slot_bytes x.slots) (Err fault)) (λ t. fetching_on {T = T} t name x.kept (Err fault)) view x y (Err fault) → Minds {T = T} view x y (Fetch name) (Err fault)
-minds_not_fetched {T = T} view x y name fault opens consults =
-    minds_fetch_by view x y name (Err fault) opens consults (λ on first s log tape none told. by_fault T (Fetch name) fault s log (λ why is. none (consults.idle (calls why is x.kept on))))
+    → Consults {T = T} (fetching {T = T} (view x.records).record_count name x.kept (map slot_bytes x.slots) (Err fault)) (λ t. fetching_on {T = T} t name x.kept (Err fault)) view x y (Err fault) → WritesBySettling {T = T} view x y (Err fault) → OnlySettles view x y → Minds {T = T} view x y (Fetch name) (Err fault)
+minds_not_fetched {T = T} view x y name fault opens consults transfers settling =
+    minds_fetch_by view x y name (Err fault) opens consults transfers settling (λ on first s log tape none told. by_fault T (Fetch name) fault s log (λ why is. none (consults.idle (calls why is x.kept on))))
   where
     calls : (why : Refusal) → fault ≡ Refused why → (old : Option HeaderParts) → is_some old ≡ true → fetching {T = T} (view x.records).record_count name old (map slot_bytes x.slots) (Err fault) ≡ 0
     calls why is (Some header) on = ap (λ (f : VolumeFault). reading {T = T} (map slot_bytes x.slots) name (Err f)) is
@@ -314,9 +327,9 @@ minds_not_fetched {T = T} view x y name fault opens consults =
 -- ok
 pub minds_fetched : {R S : Type 0} (view : R → RecordsView S) (x y : VolumeView R) (name : List ℕ) (fetched : Fetched) (into : List ℕ) → IsOpen view x
     → Consults (fetching (view x.records).record_count name x.kept (map slot_bytes x.slots) (Ok fetched)) (λ t. fetching_on t name x.kept (Ok fetched)) view x y (Ok fetched)
-    → FetchesFile name view x fetched into → FetchesByRun name view x y fetched into → Minds view x y (Fetch name) (Ok fetched)
-minds_fetched view x y name fetched into opens consults file run =
-    minds_fetch_by view x y name (Ok fetched) opens consults (λ on first s log tape none told t v here of. only on first s log none told t v (sym tape ∙ here) of)
+    → FetchesFile name view x fetched into → FetchesByRun name view x y fetched into → WritesBySettling view x y (Ok fetched) → OnlySettles view x y → Minds view x y (Fetch name) (Ok fetched)
+minds_fetched view x y name fetched into opens consults file run transfers settling =
+    minds_fetch_by view x y name (Ok fetched) opens consults transfers settling (λ on first s log tape none told t v here of. only on first s log none told t v (sym tape ∙ here) of)
   where
     only : is_some x.kept ≡ true → (view x.records).transferred [] → (s : HostState) (log : List Entry) → (y.records ≡ x.records → log ≡ []) → ((list : List Transfer) → (view y.records).transferred list → Transferred (ring_of s.loop) log list)
         → (t : Tape) (v : Volume) → (view x.records).tape ≡ Some t → volume_of t ≡ Some v → HasTransfers (ring_of s.loop) log (run_read (slot_named v.slots name) (get v.files name))
@@ -325,7 +338,7 @@ minds_fetched view x y name fetched into opens consults file run =
         let same : is.volume ≡ v = same_volume is.volume v (volume_of t) is.of_tape of in
         let named : slot_named v.slots name ≡ Some is.slot = ap (λ (w : Volume). slot_named w.slots name) (sym same) ∙ is.named in
         let bytes : get v.files name ≡ Some (take fetched.length into) = ap (λ (w : Volume). get w.files name) (sym same) ∙ is.bytes in
-        let kept = kept_of view x y name (Ok fetched) opens consults t here on in
+        let kept = kept_of view x y name (Ok fetched) opens consults transfers settling t here on in
         let slots : slots_of (settled t) ≡ v.slots = sym (volume_tells (settled t) v of).2 in
         let there : slot_named (slots_of (settled t)) name ≡ Some is.slot = ap (λ (xs : List (List ℕ)). slot_named xs name) slots ∙ named in
         let mine : slot_named (map slot_bytes x.slots) name ≡ Some is.slot =
@@ -356,6 +369,12 @@ TellsNothing Dir = ⊥
 TellsNothing Label = ⊥
 TellsNothing (Fetch name) = ⊥
 TellsNothing command = Unit {0}
+
+reads_nothing : (command : VolumeCommand) → TellsNothing command → only_reads (Asks (OfVolume command)) ≡ false
+reads_nothing Dir nothing = absurd nothing
+reads_nothing Label nothing = absurd nothing
+reads_nothing (Fetch name) nothing = absurd nothing
+reads_nothing _ nothing = refl
 
 refused_calls : (T : Type 0) (n : ℕ) (command : VolumeCommand) (old new : Option HeaderParts) (why : Refusal) → TellsNothing command → is_some old ≡ true → changing {T = T} n command old new (Err (Refused why)) ≡ 0
 refused_calls T n command None new why nothing on = cc
@@ -397,7 +416,7 @@ has_files : (n : ℕ) (l : Loop) (log : List Entry) (files : List NewFile) (chan
 has_files n l log [] [] quiet some = quiet refl refl
 has_files n l log _ _ quiet some = some
 
-is_commit : (version : Version) (n : ℕ) (was_open : Bool) (changes writes : Changes) → writes ≡ writes_if_any version n was_open changes → IsCommitOf n changes writes
+pub is_commit : (version : Version) (n : ℕ) (was_open : Bool) (changes writes : Changes) → writes ≡ writes_if_any version n was_open changes → IsCommitOf n changes writes
 is_commit version n was_open [] writes is = is
 is_commit version n was_open (c ∷ cs) writes is = (version, was_open, is)
 
@@ -415,6 +434,7 @@ minds_altered {T = T} view x y command answer nothing opens alters = record {
   log = λ on first s log tape size none told. by answer alters on first s log tape size none told;
   on_tape = λ t told. omega (arith, alters.most t told, few_mounted t x.kept, (carrying_few (view x.records).record_count command (settled t) answer nothing).0);
   from_kept = λ t told on. omega (arith, alters.most t told, none_mounted t x.kept on, (carrying_few (view x.records).record_count command (settled t) answer nothing).1);
+  tape = left_altered view x y command (reads_nothing command nothing) answer alters.written alters.transfers;
 }
   where
     settled_kept : (t : Tape) → (old : Option HeaderParts) → is_some old ≡ true → IfSome old (λ h. IsDirectoryOf t h x.slots) → IsSettled t

@@ -60,7 +60,7 @@ use Rattle.il_host.proofs.LendTravels.{Went, some_device, travels_went, went_cam
 use Rattle.il_host.proofs.LoopEvents.{Readies, keeps_interrupted, meets_addressing}
 use Rattle.il_host.proofs.LoopNext.{Still, loop_interrupted_next, ready_still}
 use Rattle.il_host.proofs.LoopReady.{ReadyBroke}
-use Rattle.il_host.proofs.LoopReplied.{LeavesTape, loop_fault_replied, loop_refusal_replied, loop_replied}
+use Rattle.il_host.proofs.LoopReplied.{LeavesOnTape, loop_fault_replied, loop_refusal_replied, loop_replied}
 use Rattle.il_host.proofs.LoopRuns.{still_tape}
 use Rattle.il_host.proofs.Sounding.{replied_sounding, travels_sounding}
 use Rattle.il_host.specs.Texts.{found_lines, statuses_lines}
@@ -438,7 +438,7 @@ module _ {M : Type 0} (view : M → MediumView) (frames : ℕ) (was sound : Bool
           (met-split (hops_of r.books.plan) r.books.crossings m.books.crossings s.books.crossings count.0 count.1).1
           (met_ready view r empty was m ready, subst (λ plan. met (hops_of plan) m.books.crossings s.books.crossings ≡ []) (ready_plan view was r m ready) (made.met is))
 
-      replied : (taken : Bool) → taken ≡ controller_at (length (devices_of m)) m → LeavesTape view r s → Replied (event_of true (taker_reply taken))
+      replied : (taken : Bool) → taken ≡ controller_at (length (devices_of m)) m → LeavesOnTape view r s → Replied (event_of true (taker_reply taken))
       replied true stands leaves = replied_sounding (event_on view (Asks (Lend frames)) reply.Ok was true r s) sound false (loop_replied view (Asks (Lend frames)) tt was true r s leaves (reply_is (last_asked r.guest) true (taker_is true stands)))
       replied false stands leaves =
           replied_sounding (event_on view (Asks (Lend frames)) (reply.No code.NoTaker) was true r s) sound false

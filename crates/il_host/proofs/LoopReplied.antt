@@ -17,7 +17,7 @@ use Rattle.il_host.proofs.CommandTravels.{event_on}
 use Rattle.il_host.proofs.LoopEvents.{IsOfLoop}
 
 -- the tape is as it was, and so is its size
-pub record LeavesTape {M : Type 0} (view : M → MediumView) (r s : RingView M) : Type 0 where
+pub record LeavesOnTape {M : Type 0} (view : M → MediumView) (r s : RingView M) : Type 0 where
   pub tape : (view s.drive.medium).tape ≡ (view r.drive.medium).tape
   pub size : (view s.drive.medium).record_count ≡ (view r.drive.medium).record_count
 
@@ -45,7 +45,7 @@ either_staying (Asks (Say bytes)) s t of_loop same = inl same
 either_staying (Asks (Lend frames)) s t of_loop same = inl same
 either_staying _ s t of_loop same = absurd of_loop
 
-module _ {M : Type 0} (view : M → MediumView) (item : Item) (of_loop : IsOfLoop item) (was is : Bool) (r s : RingView M) (leaves : LeavesTape view r s) where
+module _ {M : Type 0} (view : M → MediumView) (item : Item) (of_loop : IsOfLoop item) (was is : Bool) (r s : RingView M) (leaves : LeavesOnTape view r s) where
   volume_stays : volume_at (state_on view is false s) ≡ volume_at (state_on view was false r)
   volume_stays = ap (λ tape. option_and_then finished_volume_of tape) leaves.tape
 

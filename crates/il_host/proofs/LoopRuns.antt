@@ -29,7 +29,7 @@ use Rattle.il_host.proofs.LoopCallsNext.{devices_next, poll_next, say_refused_ne
 use Rattle.il_host.proofs.LoopEvents.{IsOfLoop, Readies, keeps_interrupted, keeps_ready, loop_broken, loop_done, loop_refused}
 use Rattle.il_host.proofs.LoopNext.{Still, loop_interrupted_next, status_broken_next, status_next}
 use Rattle.il_host.proofs.LoopReady.{ReadyBroke}
-use Rattle.il_host.proofs.LoopReplied.{LeavesTape, loop_fault_replied, loop_refusal_replied, loop_replied}
+use Rattle.il_host.proofs.LoopReplied.{LeavesOnTape, loop_fault_replied, loop_refusal_replied, loop_replied}
 use Rattle.il_host.proofs.LoopTravels.{ready_came}
 use Rattle.il_host.proofs.Sounding.{HeardOf}
 use Rattle.il_host.proofs.StatusEvents.{not_polled_keeps, polled_keeps, ready_leaves, status_course}
@@ -61,7 +61,7 @@ course_there (Asks (Say bytes)) z of_loop other = (_, refl)
 course_there _ z of_loop other = absurd of_loop
 
 -- which leaves the tape
-pub still_tape : {M : Type 0} (view : M → MediumView) (r s : RingView M) → IsStill (view r.drive.medium) (view s.drive.medium) → LeavesTape view r s
+pub still_tape : {M : Type 0} (view : M → MediumView) (r s : RingView M) → IsStill (view r.drive.medium) (view s.drive.medium) → LeavesOnTape view r s
 still_tape view r s still = record { tape = still.tape; size = still.stays_in.size }
 
 pub ran_unready : {M : Type 0} (view : M → MediumView) (item : Item) (r s : RingView M) → IsOfLoop item → is_lending item ≡ false → r.books.log ≡ [] → ReadyBroke view r s → Ran view item reply.FaultFrame false false r s
@@ -84,7 +84,7 @@ ran_unready view item r s of_loop other empty broke =
 -- What it is to make, whole with ok or a refusal, or broken off, makes of its reply and its exchanges what they are to be.
 pub record Outcome {M : Type 0} (view : M → MediumView) (item : Item) (answered : Reply) (was is : Bool) (r s : RingView M) : Type 0 where
   pub ends : is ≡ not (is_frame_fault answered)
-  pub replied : LeavesTape view r s → Replied (event_on view item answered was is r s)
+  pub replied : LeavesOnTape view r s → Replied (event_on view item answered was is r s)
   pub exchanged : (course : List Due) → course_of item (loop_on r) ≡ Some course → Keeps view is (addressed_first (loop_on r) was course) r s → (view s.drive.medium).faults ≡ (view r.drive.medium).faults → Exchanged (r.books.plan) (event_on view item answered was is r s)
 
 module _ {M : Type 0} (view : M → MediumView) (item : Item) (of_loop : IsOfLoop item) (was : Bool) (r s : RingView M) (empty : r.books.log ≡ []) where

@@ -1,5 +1,5 @@
 -- A packing of the volume, as a host performs it.
-use Rattle.std.proofs.Common.{◌≡◌, ◌∙◌, ◌≤◌, ◌+◌, ◌*◌, ◌++◌, ℕ, true, false, List, Some, None, refl, sym, ap, ap₂, subst, arith}
+use Rattle.std.proofs.Common.{◌≡◌, ◌∙◌, ◌≤◌, ◌+◌, ◌*◌, ◌++◌, ℕ, true, false, List, [], Some, None, refl, sym, ap, ap₂, subst, arith}
 use Rattle.std.specs.Prelude.{Result, Ok, Err, is_some, option_and_then}
 use Rattle.lif_model.specs.Tape.{Tape}
 use Rattle.lif_model.specs.Volume.{is_foreign_gated, volume_in}
@@ -21,8 +21,13 @@ use Rattle.lif_volume.specs.declared.fault.VolumeFault.{VolumeFault}
 use Rattle.lif_volume.specs.declared.fault.VolumeFault.TheVariants.{Refused, Trouble as Troubled}
 use Rattle.lif_volume.specs.declared.volume.Volume.{Volume}
 use Rattle.lif_volume.proofs.Gated.{held_settled}
-use Rattle.lif_model.specs.Packing.{files_shown, finished_volume_of, pack_refusal, packed}
-use Rattle.lif_pack.specs.Packs.{AnswersPack, KeepsFiled, PacksTo}
+use Rattle.lif_model.specs.Packing.{finished_volume_of, has_mark, pack_refusal, packed}
+use Rattle.lif_model.specs.Redo.{redo_of, settled}
+use Rattle.lif_model.specs.Commit.{IsSettleWrite}
+use Rattle.il_ports.specs.Transfers.{GoesOnBy, WritesOnly}
+use Rattle.loop_model.specs.Effect.{Transferred}
+use Rattle.lif_pack.specs.Packs.{AnswersPack, KeepsFiled, PacksTo, SettlesRefused, StaysPacked}
+use Rattle.lif_model.specs.Finished.{IsPlain, IsPackedOn}
 use Rattle.lif_pack.specs.Tasks.{KeepsFiles}
 use Rattle.lif_pack.specs.declared.memory.Packer.{Packer}
 use Rattle.lif_pack.specs.declared.pack.Packed.{Packed}
@@ -41,7 +46,12 @@ use Rattle.host_model.specs.Requests.{Asks, Lend, OfVolume, Pack, is_of_volume, 
 use Rattle.host_model.specs.HostStates.{HasOwnGate, HostState, volume_at}
 use Rattle.host_model.specs.Next.{DeviceBehind}
 use Rattle.host_model.specs.Replies.{packed_line, packed_text, packed_unless, refused_as, reply_of, reply_text, volume_behind}
-use Rattle.host_model.specs.Steps.{Acts, CountsWhole, Event, MayReply, Replied, TellsReply, event}
+use Rattle.host_model.specs.Steps.{Acts, CountsWhole, Event, LeavesOnTape, MayReply, Replied, TellsReply, event, packs_as}
+use Rattle.host_model.specs.Tapes.{OnlySettling}
+use Rattle.host_model.specs.LoopStates.{ring_of}
+use Rattle.host_model.proofs.Steps.{ring_stays}
+use Rattle.host_model.proofs.Tapes.{is_fault, tape_faulted}
+use Rattle.il_host.proofs.KeptDirectories.{told_log}
 use Rattle.host_model.specs.Stops.{StopsLeave}
 use Rattle.host_model.proofs.Fronts.{controls_still}
 use Rattle.il_host.specs.HostView.{Performed}
@@ -49,8 +59,9 @@ use Rattle.il_host.specs.declared.file_buffer.FileBuffer.{FileBuffer}
 use Rattle.il_host.specs.Hosts.{Space, space_of, IsUsable, host_in, loop_in, store_in, volume_in as seen_volume}
 use Rattle.il_host.specs.Preparing.{StaysUnsound}
 use Rattle.il_host.specs.Standings.{FitsAnswer, HasDriveStatus, IsHostRing, MakesSound, event_at, fault_of, state_at, volume_reply}
-use Rattle.il_host.proofs.HostVolumes.{begun_left, fault_text, forgotten_unsound, performed}
-use Rattle.il_host.proofs.VolumeAsked.{asked_seen}
+use Rattle.il_host.proofs.LeftTapes.{one_tape}
+use Rattle.il_host.proofs.HostVolumes.{begun_left, event_kept, fault_text, forgotten_unsound, performed}
+use Rattle.il_host.proofs.VolumeAsked.{asked_seen, asked_transferred}
 use Rattle.il_host.proofs.VolumeCarries.{CarriesAs}
 use Rattle.il_host.proofs.VolumeCommands.{volume_broke, volume_done}
 use Rattle.il_host.proofs.VolumePerforms.{Performs, performs_of}
@@ -113,20 +124,20 @@ module _ {S : Type 0} (v w : RecordsView S) (s t : HostState) (log : List Entry)
     (leaves_files : (x : Tape) → v.tape ≡ Some x → is_foreign_gated x ≡ false → LeavesBy (KeepsFiles v.record_count x) v w)
     (foreign : (x : Tape) → v.tape ≡ Some x → is_foreign_gated x ≡ true → SettlesOnly v w x) where
   abbrev Same : Tape → Type 0
-  Same c = files_shown s.records (finished_volume_of c) ≡ files_shown s.records (volume_at s)
+  Same c = packs_as s.records (finished_volume_of c) ≡ packs_as s.records (volume_at s)
 
   same_left : (x c : Tape) → s.tape ≡ Some x → KeepsFiles v.record_count x c → Same c
   same_left x c is keeps =
-      ap (λ n. files_shown n (finished_volume_of c)) before.records ∙ keeps.files
-      ∙ ap₂ (λ n tape. files_shown n (option_and_then finished_volume_of tape)) (sym before.records) (sym is)
+      ap (λ n. packs_as n (finished_volume_of c)) before.records ∙ (λ i. (keeps.files i, keeps.again i))
+      ∙ ap₂ (λ n tape. packs_as n (option_and_then finished_volume_of tape)) (sym before.records) (sym is)
 
   pub pack_stops : (answered : Reply) (u : RecordsView S) → IsQuiet u v → StopsLeave (event (Asks Pack) answered log s t) u.moment w.moment u.left_since w.left_since
   pack_stops = item_stops (Asks Pack) refl v w s t log before after Same (λ c so. so) (KeepsFiles v.record_count) same_left (λ x c keeps. keeps.own_gate) leaves_files foreign
 
-  files_now : (u : Tape) → t.tape ≡ Some u → Same u → files_shown s.records (volume_at t) ≡ files_shown s.records (volume_at s)
-  files_now u is so = ap (λ tape. files_shown s.records (option_and_then finished_volume_of tape)) is ∙ so
+  files_now : (u : Tape) → t.tape ≡ Some u → Same u → packs_as s.records (volume_at t) ≡ packs_as s.records (volume_at s)
+  files_now u is so = ap (λ tape. packs_as s.records (option_and_then finished_volume_of tape)) is ∙ so
 
-  files_same : HasOwnGate s → is_some s.tape ≡ true → files_shown s.records (volume_at t) ≡ files_shown s.records (volume_at s)
+  files_same : HasOwnGate s → is_some s.tape ≡ true → packs_as s.records (volume_at t) ≡ packs_as s.records (volume_at s)
   files_same own told =
       let tape = told_tape s.tape told in
       let so = (turned (Asks Pack) refl v w s t log before after Same (λ c so. so) (KeepsFiles v.record_count) same_left (λ x c keeps. keeps.own_gate) leaves_files foreign tape.0 tape.1 own).after in
@@ -200,7 +211,7 @@ module _ {M S : Type 0} (view : M → MediumView) (seen : S → RingView M) (o a
       let after = seen_as view seen q new in
       let same = tape_still (Asks Pack) (view_of view seen a begun) (view_of view seen q new) s t (new.ring.books.log) before after still in
       let replied = item_broke (Asks Pack) (view_of view seen a begun) (view_of view seen q new) s t (new.ring.books.log) before after still refl refl
-      (ap (λ tape. files_shown s.records (option_and_then finished_volume_of tape)) same) in
+      (ap (λ tape. packs_as s.records (option_and_then finished_volume_of tape)) same) in
       let first = subst (λ (s : HostState). IsSeenAs s (view_of view seen o old)) (sym emptied.state) (seen_as view seen o old) in
       let stops = broke_stops (Asks Pack) reply.FaultFrame (view_of view seen o old) (view_of view seen q new) s t (new.ring.books.log) first store
       (quiet_then (view_of view seen o old) (view_of view seen a begun) (view_of view seen q new) empties.quiet still.quiet) in (
@@ -273,7 +284,11 @@ module _ {M I : Type 0} {D : I → Type 0} (view : M → MediumView) (seen : Rin
       (subst (λ e. Performs view seen o.records.ring n.records.ring (Asks Pack) (fault_of e) (loop_in seen o.records) (loop_in seen n.records)) (sym did.0) did.1)
       (record { kept = off; log = λ on. tt })
       (λ told. sym (fault_text (Asks Pack) (state before) ((loop_in seen n.records).ring.books.log) e))
-      (λ is. ((omega (arith, used), λ other. cc, λ other. cc), λ t told on. let clash : true ≡ false = sym on ∙ off in cc))
+      (λ is. (
+        (omega (arith, used), λ other. cc, λ other. cc),
+        λ t told on. let clash : true ≡ false = sym on ∙ off in cc,
+        tape_faulted (event_kept view seen o b n text_space space usable began opens (Asks Pack) (fault_of e)) (ap (λ x. is_fault (fault_of x)) did.0) (λ on. cc),
+      ))
 
   -- the store was made sound as m
   module _ (m : Volume (LoopRecords M I D)) (makes : MakesSound {T = Unit {0}} view (loop_in seen b.records) (loop_in seen m.records) (Ok tt))
@@ -300,13 +315,77 @@ module _ {M I : Type 0} {D : I → Type 0} (view : M → MediumView) (seen : Rin
         ap (λ lines. lines ++ reply_line reply.Ok)
         ((λ i. packed_text (is.files i) (is.free i)) ∙ sym (λ i. packed_line (so.records i) (volume i)))
 
+    -- what it leaves of the tape, and what it writes
+    pack_tape : (answer : Result Packed VolumeFault) (before : List ℕ) → Performs view seen o.records.ring n.records.ring (Asks Pack) (volume_reply answer) (loop_in seen o.records) (loop_in seen n.records)
+        → AnswersPack (store_in view seen) (seen_volume m) (seen_volume n) answer
+        → StaysPacked (store_in view seen) (seen_volume m) (seen_volume n) answer → SettlesRefused (store_in view seen) (seen_volume m) (seen_volume n) answer
+        → LeavesOnTape (event_kept view seen o b n text_space space usable began opens (Asks Pack) (volume_reply answer))
+    pack_tape answer before did answers again refusal = by answer did answers again refusal
+      where
+        count : ℕ
+        count = (store_in view seen o.records).record_count
+
+        at_asked : (t : Tape) → (state before).tape ≡ Some t → (store_in view seen m.records).tape ≡ Some t
+        at_asked t was = sym (seen_made before).tape ∙ was
+
+        told_behind : (u : Tape) → (state_at view (loop_in seen n.records)).tape ≡ Some u → (store_in view seen n.records).tape ≡ Some u
+        told_behind u now = sym (seen_as view seen n.records.ring (loop_in seen n.records)).tape ∙ now
+
+        none : (store_in view seen m.records).transferred []
+        none =
+            asked_transferred view seen o.records.ring b.records.ring m.records.ring (loop_in seen o.records) (loop_in seen b.records) (loop_in seen m.records)
+            usable.volume_open.valid refl refl began tt makes
+
+        -- a log of settling
+        settles : (answered : Reply) → Performs view seen o.records.ring n.records.ring (Asks Pack) answered (loop_in seen o.records) (loop_in seen n.records) → (t : Tape)
+            → GoesOnBy (IsSettleWrite (store_in view seen m.records).record_count (redo_of t)) (store_in view seen m.records).transferred (store_in view seen n.records).transferred
+            → OnlySettling count (ring_of (state_at view (loop_in seen o.records)).loop) ((loop_in seen n.records).ring.books.log) t
+        settles answered ran t goes_by =
+            let ring = ring_stays _ (state_at view (loop_in seen o.records)).loop (state_at view (loop_in seen n.records)).loop ran.step.next.devices in
+            let more = goes_by.goes_on [] none in
+            record {
+              list = more.0;
+              transferred = subst (λ l. Transferred l ((loop_in seen n.records).ring.books.log) more.0) ring (told_log view seen n.records.ring (loop_in seen n.records) more.0 more.1);
+              only = subst (λ k. WritesOnly (IsSettleWrite k (redo_of t)) more.0) size_made more.2;
+            }
+
+        by : (answer : Result Packed VolumeFault) → Performs view seen o.records.ring n.records.ring (Asks Pack) (volume_reply answer) (loop_in seen o.records) (loop_in seen n.records)
+            → AnswersPack (store_in view seen) (seen_volume m) (seen_volume n) answer
+            → StaysPacked (store_in view seen) (seen_volume m) (seen_volume n) answer → SettlesRefused (store_in view seen) (seen_volume m) (seen_volume n) answer
+            → LeavesOnTape (event_kept view seen o b n text_space space usable began opens (Asks Pack) (volume_reply answer))
+        by (Ok a) ran answers again refusal = record {
+          plain = λ of ok t u was now.
+              let is = answers t u (at_asked t was) (told_behind u now) in
+              subst (λ k. IsPlain k u) size_made (record { is_settled = is.is_settled; clear = ap (has_mark (store_in view seen m.records).record_count) is.is_packed.has ∙ is.is_packed.unmarked });
+          same = λ on. cc;
+          writes = λ on. cc;
+          reads = λ on. cc;
+          commits = λ ok changes t was off. tt;
+          written = λ t u was now. let is = answers t u (at_asked t was) (told_behind u now) in record { volume = is.volume; shown = is.shown; outside = is.outside };
+          again = λ is ok t u was now packed.
+              let so = again t (at_asked t was) (subst (λ k. IsPackedOn k t) (sym size_made) packed) in
+              (one_tape (store_in view seen n.records).tape u (settled t) (told_behind u now) so.2, settles reply.Ok ran t (so.1 t (at_asked t was)));
+        }
+        by (Err (Refused why)) ran answers again refusal = record {
+          plain = λ of ok. cc;
+          same = λ on t u was now. (answers t u (at_asked t was) (told_behind u now)).1;
+          writes = λ on t was off. settles (reply.No (code_of why)) ran t (refusal why refl t (at_asked t was));
+          reads = λ on. cc;
+          commits = λ ok changes t was off. tt;
+          written = λ t u was now. tt;
+          again = λ is ok. cc;
+        }
+        by (Err (Troubled trouble.Frame)) ran answers again refusal = tape_faulted (event_kept view seen o b n text_space space usable began opens (Asks Pack) reply.FaultFrame) refl (λ on. cc)
+        by (Err (Troubled trouble.Medium)) ran answers again refusal = tape_faulted (event_kept view seen o b n text_space space usable began opens (Asks Pack) reply.FaultMedium) refl (λ on. cc)
+
     pub pack_done : (answer : Result Packed VolumeFault) (before after : List ℕ)
         → GoesOn (15 * (store_in view seen m.records).record_count + 120) (store_in view seen m.records) (store_in view seen n.records) (store_answer answer)
         → n.kept ≡ None → AnswersPack (store_in view seen) (seen_volume m) (seen_volume n) answer
         → KeepsFiled (store_in view seen) (seen_volume m) (seen_volume n) → SettlesForeign (store_in view seen) (seen_volume m) (seen_volume n)
+        → StaysPacked (store_in view seen) (seen_volume m) (seen_volume n) answer → SettlesRefused (store_in view seen) (seen_volume m) (seen_volume n) answer
         → (TellsReply (Asks Pack) (state before) → after ≡ reply_text (Asks Pack) (state before) ((loop_in seen n.records).ring.books.log) (volume_reply answer))
         → Performed (Asks Pack) (volume_reply answer) (host_in view seen o before text_space space) (host_in view seen n after text_space space)
-    pack_done answer before after goes none answers files foreign text =
+    pack_done answer before after goes none answers files foreign again refusal text =
         let off : is_some n.kept ≡ false = ap is_some none in
         let left : 1 ≤ (store_in view seen n.records).calls_left = omega (arith, begun_left view seen o b n text_space space usable began, sounds.left, goes.continues.left, size_made) in
         let did = pack_performs view seen o.records.ring b.records.ring n.records.ring (loop_in seen o.records) (loop_in seen b.records) (loop_in seen n.records)
@@ -316,27 +395,34 @@ module _ {M I : Type 0} {D : I → Type 0} (view : M → MediumView) (seen : Rin
         (λ t told held. foreign t told (held_settled t held)) answers in
         performed view seen o b n text_space space usable began opens (Asks Pack) (volume_reply answer) before after (goes.continues.size ∙ size_made) did
         (record { kept = off; log = λ on. tt }) text
-        (λ is. ((omega (arith, sounds.left, goes.continues.left, size_made), λ other. cc, λ other. cc), λ t told on. let clash : true ≡ false = sym on ∙ off in cc))
+        (λ is. (
+          (omega (arith, sounds.left, goes.continues.left, size_made), λ other. cc, λ other. cc),
+          λ t told on. let clash : true ≡ false = sym on ∙ off in cc,
+          pack_tape answer before did answers again refusal,
+        ))
 
     -- with ok, and with an error
     pub packed_host : (answer : Packed) (before : List ℕ)
         → GoesOn {T = Unit {0}} (15 * (store_in view seen m.records).record_count + 120) (store_in view seen m.records) (store_in view seen n.records) (Ok tt)
         → n.kept ≡ None → AnswersPack (store_in view seen) (seen_volume m) (seen_volume n) (Ok answer)
         → KeepsFiled (store_in view seen) (seen_volume m) (seen_volume n) → SettlesForeign (store_in view seen) (seen_volume m) (seen_volume n)
+        → StaysPacked (store_in view seen) (seen_volume m) (seen_volume n) (Ok answer) → SettlesRefused (store_in view seen) (seen_volume m) (seen_volume n) (Ok answer)
         → Performed (Asks Pack) reply.Ok (host_in view seen o before text_space space) (host_in view seen n (packed_text answer.files answer.free ++ reply_line reply.Ok) text_space space)
-    packed_host answer before goes none answers files foreign =
-        pack_done (Ok answer) before (packed_text answer.files answer.free ++ reply_line reply.Ok) goes none answers files foreign
+    packed_host answer before goes none answers files foreign again refusal =
+        pack_done (Ok answer) before (packed_text answer.files answer.free ++ reply_line reply.Ok) goes none answers files foreign again refusal
         (packed_text_is before answer answers goes.continues.told)
 
     pub not_packed_host : (fault : VolumeFault) (before : List ℕ)
         → GoesOn (15 * (store_in view seen m.records).record_count + 120) (store_in view seen m.records) (store_in view seen n.records) (store_answer {T = Packed} (Err fault))
         → n.kept ≡ None → AnswersPack (store_in view seen) (seen_volume m) (seen_volume n) (Err fault)
         → KeepsFiled (store_in view seen) (seen_volume m) (seen_volume n) → SettlesForeign (store_in view seen) (seen_volume m) (seen_volume n)
+        → StaysPacked (store_in view seen) (seen_volume m) (seen_volume n) (Err fault) → SettlesRefused (store_in view seen) (seen_volume m) (seen_volume n) (Err fault)
         → Performed (Asks Pack) (volume_reply {T = Unit {0}} (Err fault)) (host_in view seen o before text_space space) (host_in view seen n (reply_line (volume_reply {T = Unit {0}} (Err fault))) text_space space)
-    not_packed_host fault before goes none answers files foreign = by fault goes answers
+    not_packed_host fault before goes none answers files foreign again refusal = by fault goes answers again refusal
       where
         by : (fault : VolumeFault) → GoesOn (15 * (store_in view seen m.records).record_count + 120) (store_in view seen m.records) (store_in view seen n.records) (store_answer {T = Packed} (Err fault))
             → AnswersPack (store_in view seen) (seen_volume m) (seen_volume n) (Err fault)
+            → StaysPacked (store_in view seen) (seen_volume m) (seen_volume n) (Err fault) → SettlesRefused (store_in view seen) (seen_volume m) (seen_volume n) (Err fault)
             → Performed (Asks Pack) (volume_reply {T = Unit {0}} (Err fault)) (host_in view seen o before text_space space) (host_in view seen n (reply_line (volume_reply {T = Unit {0}} (Err fault))) text_space space)
-        by (Refused why) goes answers = pack_done (Err (Refused why)) before (reply_line (reply.No (code_of why))) goes none answers files foreign (λ told. refl)
-        by (Troubled e) goes answers = pack_done (Err (Troubled e)) before (reply_line (fault_of e)) goes none answers files foreign (λ told. sym (fault_text (Asks Pack) (state before) ((loop_in seen n.records).ring.books.log) e))
+        by (Refused why) goes answers again refusal = pack_done (Err (Refused why)) before (reply_line (reply.No (code_of why))) goes none answers files foreign again refusal (λ told. refl)
+        by (Troubled e) goes answers again refusal = pack_done (Err (Troubled e)) before (reply_line (fault_of e)) goes none answers files foreign again refusal (λ told. sym (fault_text (Asks Pack) (state before) ((loop_in seen n.records).ring.books.log) e))

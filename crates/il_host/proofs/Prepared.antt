@@ -1,13 +1,11 @@
 -- A host whose volume is ready for a command: the store is sound, and no packing is to be finished.
 use Rattle.std.proofs.Common.{◌≡◌, ◌∙◌, ◌<◌, ◌≤◌, ◌+◌, ◌-◌, ◌*◌, ℕ, Bool, true, false, List, length, Option, Some, None, inl, inr, refl, sym, ap, subst, arith}
-use Rattle.std.specs.Prelude.{Result, Ok, Err, IfSome, is_some, option_and_then}
+use Rattle.std.specs.Prelude.{Result, Ok, Err, IfSome, is_ok, is_some, option_and_then}
 use Rattle.lif_model.specs.Tape.{Tape, record_at}
 use Rattle.lif_model.specs.Header.{HeaderParts}
 use Rattle.lif_model.specs.Redo.{IsSettled, settled}
-use Rattle.lif_model.specs.Commit.{SettlesAs}
 use Rattle.lif_model.specs.Volume.{volume_of}
 use Rattle.lif_model.specs.Apply.{VolumeCommand}
-use Rattle.lif_model.proofs.Commit.{settles_self}
 use Rattle.lif_model.proofs.Sizes.{size_bounds}
 use Rattle.il_ports.specs.Media.{IsMedium, MediumView}
 use Rattle.il_ports.specs.Stores.{Begun, Continues, GoesOn, IsReady, IsStore}
@@ -22,7 +20,8 @@ use Rattle.lif_volume.specs.declared.volume.Volume.{Volume}
 use Rattle.lif_model.specs.Packing.{finished_volume_of, has_mark}
 use Rattle.lif_pack.specs.Packers.{IsPackerFor}
 use Rattle.lif_pack.specs.declared.memory.Packer.{Packer}
-use Rattle.lif_pack.specs.Tasks.{IsFinished, IsShownAs}
+use Rattle.lif_pack.specs.Tasks.{IsShownAs}
+use Rattle.lif_model.specs.Finished.{IsFinished}
 use Rattle.lif_pack.proofs.Finishes.{finished_unmarked, unmarked_volume}
 use Rattle.il_ring.specs.declared.ring.Ring.{Ring}
 use Rattle.il_ring.specs.Rings.{RingView}
@@ -31,9 +30,11 @@ use Rattle.il_record.specs.IsStore.{is_store_of}
 use Rattle.il_script.specs.Replies.{reply_line}
 use Rattle.host_model.specs.Requests.{Asks, OfVolume}
 use Rattle.host_model.specs.Replies.{told_of}
+use Rattle.il_ports.proofs.Transfers.{nothing_yet}
 use Rattle.il_host.specs.HostView.{Performed, calls_to_pack}
 use Rattle.il_host.specs.declared.file_buffer.FileBuffer.{FileBuffer}
 use Rattle.il_host.specs.Hosts.{Space, space_of, IsUnmarked, IsUsable, host_in, loop_in, store_in, volume_in}
+use Rattle.lif_pack.proofs.Stopped.{settles_here}
 use Rattle.il_host.specs.Preparing.{Finishes, IsMadeSound, Prepares}
 use Rattle.il_host.specs.Standings.{HasDriveStatus, MakesSound, fault_of}
 use Rattle.il_host.proofs.FileCarries.{ShowsVolume, TellsSome}
@@ -62,6 +63,9 @@ module _ {M I : Type 0} {D : I → Type 0} (view : M → MediumView) (seen : Rin
 
   pub memory_to_pack : IsPackerFor (store_in view seen b.records).record_count packer
   memory_to_pack = record { room = usable.space_is.slots ∙ ap (λ (n : ℕ). 8 * (n - 5)) (sym began.size) }
+
+err_not_ok : (x : Result (Unit {0}) Trouble) → is_ok x ≡ false → x ≡ Ok tt → ⊥
+err_not_ok x off is = let clash : false ≡ true = sym off ∙ ap is_ok is in cc
 
 module _ {M I : Type 0} {D : I → Type 0} (view : M → MediumView) (seen : Ring M I D → RingView M) (o b f : Volume (LoopRecords M I D)) (text_space : ℕ) (space : Space)
     (usable : IsUsable view (store_in view seen) (volume_in o) (loop_in seen o.records) text_space space) (began : Begun (store_in view seen o.records) (store_in view seen b.records))
@@ -93,9 +97,9 @@ module _ {M I : Type 0} {D : I → Type 0} (view : M → MediumView) (seen : Rin
       shown = λ t told own.
           let here : IsShownAs t t = record { volume = refl; own_gate = own } in
           record { stops = quiet_run _ _ (IsShownAs t) t (store_law m.records) (quiet_nowhere (store_in view seen m.records)) told here; after = (t, told, here) };
-      foreign = λ t told held.
-          record { stops = quiet_run _ _ (SettlesAs (settled t)) t (store_law m.records) (quiet_nowhere (store_in view seen m.records)) told (settles_self t); after = (t, told, settles_self t) };
+      foreign = λ t told held. settles_here (store_in view seen m.records) t (store_law m.records) told;
       mounts = λ t v told is clear. record { few = omega arith; keeps = on };
+      writes = λ t told off. (settles_here (store_in view seen m.records) t (store_law m.records) told, nothing_yet _ _);
       forgets = tt;
     }
       where
@@ -149,7 +153,7 @@ module _ {M I : Type 0} {D : I → Type 0} (view : M → MediumView) (seen : Rin
     unfinished e before begun m is = by (is_some m.kept) refl
       where
         by : (kept : Bool) → is_some m.kept ≡ kept → Performed (Asks (OfVolume command)) (fault_of e) (host_in view seen o before text_space space) (host_in view seen f (reply_line (fault_of e)) text_space space)
-        by true on = let clash = (is.still on).1 in cc
+        by true on = absurd (err_not_ok (Err e) refl (is.still on).1)
         by false off =
             let fails = is.finishes off in
             refused view seen o b f text_space space usable began command opens low m tt is.makes is.sounds

@@ -26,6 +26,7 @@ use Rattle.host_model.specs.Histories.{RunTells}
 use Rattle.host_model.specs.Leaves.{KeepsShelf, LeavesBy, LeavesImage, RunsOver}
 use Rattle.host_model.proofs.Growing.{left_before, size_stays}
 use Rattle.host_model.proofs.Runs.{run_tells}
+use Rattle.host_model.proofs.Tapes.{plain_run}
 use Rattle.il_host.specs.HostView.{HostView, IsHost, KeepsImages}
 use Rattle.il_host.specs.Hosts.{IsOpened, IsClosed}
 use Rattle.il_host.specs.Run.{AnswersScript, end_of}
@@ -108,6 +109,7 @@ answers_over view order medium closed before after before_now after_now guest ba
         guest = ap asks_last took ∙ closes.guest_is;
         aside = λ off. put ∙ took_no_part order.guest guest back alone off;
       };
+      plain = plain_run order.plan v.state ran.events w.state chain;
       stops = λ told.
           still (view medium).moment w.moment (view closed).moment (view medium).left_since w.left_since (view closed).left_since (LeftWithin ran.events w.state) closes.moment closes.since
           (after_still (view medium).moment v.moment w.moment (view medium).left_since v.left_since w.left_since (LeftWithin ran.events w.state) opens.moment opens.since (a.stops told));
@@ -195,6 +197,7 @@ module _ (order : Order) (made : New) (v m : MediumView) (makes : order.made ≡
     ran = a.ran;
     tells = a.tells;
     back = record { tape = a.back.tape; faults = a.back.faults; before = a.back.before; after = a.back.after; guest = a.back.guest; aside = a.back.aside };
+    plain = a.plain;
     stops = λ told x left.
         let ran = a.stops told in
         ⊎_elim

@@ -18,10 +18,10 @@ IsFormed (Lend frames) = (0 < frames) × (frames ≤ MOST_FRAMES)
 IsFormed command = Unit {0}
 
 -- and a batch is not performed line by line
-abbrev pub IsPlain : Command → Type 0
-IsPlain Begin = ⊥
-IsPlain Commit = ⊥
-IsPlain command = IsFormed command
+abbrev pub IsPlainCommand : Command → Type 0
+IsPlainCommand Begin = ⊥
+IsPlainCommand Commit = ⊥
+IsPlainCommand command = IsFormed command
 
 -- those of a reading
 abbrev pub IsFormedRead : Result (Option Command) Code → Type 0
@@ -30,7 +30,7 @@ IsFormedRead _ = Unit {0}
 
 -- and so does what a line asks for, where it is a command
 abbrev pub IsPlainAsked : Asked → Type 0
-IsPlainAsked (asked.Command command) = IsPlain command
+IsPlainAsked (asked.Command command) = IsPlainCommand command
 IsPlainAsked asked.Batch = Unit {0}
 IsPlainAsked (asked.NoCommand code) = Unit {0}
 

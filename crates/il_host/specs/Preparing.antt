@@ -8,7 +8,8 @@ use Rattle.lif_volume.specs.Views.{VolumeView, IsOpen}
 use Rattle.lif_volume.specs.Commands.{IsTold}
 use Rattle.lif_volume.specs.Changing.{SettlesForeign}
 use Rattle.lif_volume.specs.declared.volume.Volume.{Volume}
-use Rattle.lif_pack.specs.Tasks.{IsFinished, KeepsShown, MountsUnmarked}
+use Rattle.lif_pack.specs.Tasks.{KeepsShown, MountsUnmarked, SettlesUnmarked}
+use Rattle.lif_model.specs.Finished.{IsFinished}
 use Rattle.il_ring.specs.declared.ring.Ring.{Ring}
 use Rattle.il_ring.specs.Rings.{RingView}
 use Rattle.il_record.specs.declared.records.LoopRecords.{LoopRecords}
@@ -23,6 +24,7 @@ pub record Finishes {R S T : Type 0} (view : R → RecordsView S) (old new : Vol
   pub shown : KeepsShown view old new
   pub foreign : SettlesForeign view old new
   pub mounts : MountsUnmarked view old new answer
+  pub writes : SettlesUnmarked view old new answer
   pub forgets : IfErr answer (λ e. new.kept ≡ None)
 
 -- The store could not be made sound.

@@ -1,10 +1,11 @@
 -- What a whole run leaves, by how it ends.
-use Rattle.std.specs.Prelude.{◌≡◌, ◌≤◌, ◌+◌, ◌++◌, ◌==◌, ℕ, true, List, length, map, Option, Some, None, if◌then◌else◌, is_some}
+use Rattle.std.specs.Prelude.{◌≡◌, ◌≤◌, ◌+◌, ◌++◌, ◌==◌, ℕ, true, false, List, length, map, Option, Some, None, if◌then◌else◌, is_some}
 use Rattle.std.specs.List.{All}
 use Rattle.std.specs.declared.dyn_box.DynBox.{DynBox}
 use Rattle.std.specs.Global.{Global}
 use Rattle.lif_model.specs.Shelf.{IsSize}
 use Rattle.lif_model.specs.Stops.{LeavesOnly}
+use Rattle.lif_model.specs.Finished.{IsPlain}
 use Rattle.lif_model.specs.Tape.{Tape}
 use Rattle.il_device.specs.State.{DeviceState}
 use Rattle.il_guest.specs.State.{GuestState}
@@ -13,6 +14,7 @@ use Rattle.il_ring.specs.declared.rig.Rig.{Rig}
 use Rattle.il_ring.specs.Guests.{IsIdleGuest, MayBeGuest, guest_devices}
 use Rattle.il_ring.specs.Rings.{MayStand}
 use Rattle.host_model.specs.HostStates.{HostState, fresh_host}
+use Rattle.host_model.specs.Runs.{ended_ok}
 use Rattle.host_model.specs.Stops.{LeftWithin}
 use Rattle.host_model.specs.Histories.{RunTells}
 use Rattle.host_model.specs.Endings.{RunEnd, InsertFailed, HasNoTape, HasEndingCause, IsEarly, exit_status}
@@ -68,6 +70,8 @@ pub record AnswersOver (order : Order) (end : RunEnd) (v w : MediumView) (old no
   pub ran : RunSoFar order.plan order.generated (mode_of order) end start finish old.left now.left old.written now.written
   pub tells : RunTells order.plan start ran.events finish
   pub back : HandsBack order finish old now
+  -- if the last command of the volume replied ok, nothing is left to settle or to finish
+  pub plain : ended_ok false ran.events ≡ true → (t : Tape) → finish.tape ≡ Some t → IsPlain finish.records t
   pub stops : is_some start.tape ≡ true → LeavesOnly v.moment w.moment v.left_since w.left_since (LeftWithin ran.events finish)
   pub size : IsSize w.record_count
   pub images : KeepsImages v.inside w.inside v.shelf w.shelf

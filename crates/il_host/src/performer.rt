@@ -9,7 +9,7 @@ pub trait Performer {
     ghost use Rattle.il_script.specs.declared.limits.TheConstants.{LONGEST_PAYLOAD};
     ghost use Rattle.host_model.specs.Requests.{item_for};
     ghost use Rattle.il_host.specs.HostView.{HostView, IsHost, Performed};
-    ghost use Rattle.il_host.specs.PlainCommands.{IsPlain};
+    ghost use Rattle.il_host.specs.PlainCommands.{IsPlainCommand};
     ghost use Rattle.lif_model.specs.Apply as volume;
     ghost use Rattle.lif_dir.specs.Batches.{parts_of};
     ghost use Rattle.host_model.specs.Requests.{Asks, OfVolume};
@@ -19,7 +19,7 @@ pub trait Performer {
     /// Performs a command that a script can ask for, with the bytes that its line carries.
     fn perform(&mut self, command: &Command, bytes: &[u8]) -> Reply
         requires valid { (view self.old).valid }
-        requires plain { IsPlain command.now }
+        requires plain { IsPlainCommand command.now }
         requires few { length bytes.now ≤ LONGEST_PAYLOAD }
         ensures { Performed (item_for command.now bytes.now) result (view self.old) (view self.new) };
 

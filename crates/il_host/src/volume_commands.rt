@@ -7,7 +7,7 @@ ghost use Rattle.lif_dir.specs.Batches.{parts_of};
 ghost use Rattle.host_model.specs.Requests.{Asks, OfVolume, Pack, request_of};
 ghost use Rattle.il_host.specs.HostView.{Performed};
 ghost use Rattle.il_host.specs.Hosts.{volume_in, space_of};
-ghost use Rattle.il_host.specs.PlainCommands.{ChangesVolume, IsOnVolume, IsPlain, OnVolume};
+ghost use Rattle.il_host.specs.PlainCommands.{ChangesVolume, IsOnVolume, IsPlainCommand, OnVolume};
 ghost use Rattle.il_host.specs.Standings.{Ends, HasDriveStatus, volume_reply};
 
 use crate::host::Host;
@@ -24,7 +24,7 @@ impl<M: Medium + Drop> Host<M> {
     pub(crate) fn on_volume(&mut self, command: &Command, bytes: &[u8]) -> Reply
         requires valid { (⟦<Host<M> as Performer>⟧.view self.old).valid }
         requires blank { (⟦<Host<M> as Performer>⟧.view self.old).text ≡ [] }
-        requires plain { IsPlain command.now }
+        requires plain { IsPlainCommand command.now }
         requires volume { IsOnVolume command.now }
         ensures { Performed (Asks (request_of command.now bytes.now)) result (⟦<Host<M> as Performer>⟧.view self.old) (⟦<Host<M> as Performer>⟧.view self.new) }
     {
@@ -133,7 +133,7 @@ fn alter<R: Records>(
 ) -> Result<(), VolumeFault>
     requires open { IsOpen R.view (volume_in volume.old) }
     requires ready { IsReadyFor R.view (volume_in volume.old) }
-    requires plain { IsPlain command.now }
+    requires plain { IsPlainCommand command.now }
     requires changes { ChangesVolume command.now }
     ensures open { IsOpen R.view (volume_in volume.new) }
     ensures did { OnVolume (request_of command.now bytes.now)

@@ -61,7 +61,7 @@ fn command<'a>(alloc: Global) -> Result<Command<'a>, AllocError>
     Ok(command)
 }
 
-/// What a fault of the command is told as.
+/// The fault of the arguments that an error of this kind stands for.
 fn told_as(kind: ErrorKind) -> WordsFault
     ensures memory { kind ≡ kinds.OutOfMemory → result ≡ OutOfMemory }
     ensures words { kind ≢ kinds.OutOfMemory → result ≡ Refused }

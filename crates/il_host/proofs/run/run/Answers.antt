@@ -1,5 +1,5 @@
-use Rattle.std.proofs.Common.{ap, refl, subst, sym, ◌∙◌}
-use Rattle.std.specs.Prelude.{Err, Ok, option_map}
+use Rattle.std.proofs.Common.{ap, refl, subst, sym}
+use Rattle.std.specs.Prelude.{Err, option_map}
 use Rattle.il_ports.specs.Media.{DidInsert}
 use Rattle.host_model.specs.Endings.{IsEarly}
 use Rattle.il_words.specs.Asked.{asked_by}

@@ -25,7 +25,8 @@ returns-in-Ok g c =
     ends_told (packed_text c.in-Ok.packed.files c.in-Ok.packed.free) (record { page = c.make_sound.ensures.rests.page; room = room }) c.requires.blank c.put_packed.ensures.text c.answered.ensures.ended
     (packed_host _ _ c.args.self.now.volume c.begin.new.self c.pack.new.volume _ _ c.requires.valid c.begin.ensures.begun g.met.M.Medium.is_medium
     c.pack.ensures.open c.answered.ensures.drive c.make_sound.new.self.volume c.in_default.ensures.makes c.in_default.ensures.sounds
-    c.in-Ok.packed _ c.in-Ok.ensures.goes_on c.pack.ensures.kept c.in-Ok.ensures.answers c.pack.ensures.files c.pack.ensures.foreign)
+    c.in-Ok.packed _ c.in-Ok.ensures.goes_on c.pack.ensures.kept c.in-Ok.ensures.answers c.pack.ensures.files c.pack.ensures.foreign
+    c.in-Ok.ensures.again c.in-Ok.ensures.refusal)
 
 pub returns-in-Err-pack : goal.returns-in-Err-pack
 returns-in-Err-pack g c =
@@ -34,4 +35,5 @@ returns-in-Err-pack g c =
     ends_blank (record { page = c.make_sound.ensures.rests.page; room = room }) c.requires.blank c.refused.ensures.ended
     (not_packed_host _ _ c.args.self.now.volume c.begin.new.self c.pack.new.volume _ _ c.requires.valid c.begin.ensures.begun g.met.M.Medium.is_medium
     c.pack.ensures.open c.refused.ensures.drive c.make_sound.new.self.volume c.in_default.ensures.makes c.in_default.ensures.sounds
-    c.in-Err-pack.fault _ c.in-Err-pack.ensures.goes_on c.pack.ensures.kept c.in-Err-pack.ensures.answers c.pack.ensures.files c.pack.ensures.foreign)
+    c.in-Err-pack.fault _ c.in-Err-pack.ensures.goes_on c.pack.ensures.kept c.in-Err-pack.ensures.answers c.pack.ensures.files c.pack.ensures.foreign
+    c.in-Err-pack.ensures.again c.in-Err-pack.ensures.refusal)

@@ -31,6 +31,7 @@ returns-clause-prepares g c = inr (
       shown = c.finish.ensures.shown;
       foreign = c.finish.ensures.foreign;
       mounts = c.finish.ensures.mounts;
+      writes = c.finish.ensures.writes;
       forgets = c.finish.ensures.forgets;
     };
   },
