@@ -135,9 +135,9 @@ module _ {M : Type 0} (view : M → MediumView) (r : RingView M) (lost : IsLost 
       at_least : (k : ℕ) → 0x81 ≤ 0x80 + suc k
       at_least k = omega arith
 
--- the count, by the byte that came back
-pub count_of : {M : Type 0} (view : M → MediumView) (r s : RingView M) (g : Frame) (n : ℕ) → n ≡ byte_of g → AddressEnd view r (arrival.Frame g) s → (0x81 ≤ n) × Resumed view (n - 0x81) r s
-count_of view r s g n is end = subst (λ n. (0x81 ≤ n) × Resumed view (n - 0x81) r s) (sym is) end
+-- the count, by the byte that came back and that of AAD 1, which was sent
+pub count_of : {M : Type 0} (view : M → MediumView) (r s : RingView M) (g : Frame) (n first : ℕ) → n ≡ byte_of g → first ≡ 0x81 → AddressEnd view r (arrival.Frame g) s → (first ≤ n) × Resumed view (n - first) r s
+count_of view r s g n first is sent end = subst (λ n. (first ≤ n) × Resumed view (n - first) r s) (sym is) (subst (λ first. (first ≤ byte_of g) × Resumed view (byte_of g - first) r s) (sym sent) end)
 
 -- IFC whole, and AAU behind it
 pub clear_done : {M : Type 0} (view : M → MediumView) (r m s : RingView M) (f g : Frame) (whole : Bool) → IsRing r → f ≡ ifc → g ≡ aau → Whole view r (commanded 0 f) m → Done view m (commanded 0 g) whole s → Done view r (commanded 0 ifc ++ commanded 0 aau) whole s

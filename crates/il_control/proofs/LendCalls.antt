@@ -22,7 +22,6 @@ use Rattle.il_ring.proofs.HandLosses.{hand_sent}
 use Rattle.il_ring.proofs.LedRounds.{not_led}
 use Rattle.il_control.specs.declared.lending.Handed.TheVariants as handed
 use Rattle.il_control.specs.Calls.{Broke, IsFree, IsIdle, Whole, arrives}
-use Rattle.il_control.specs.Found.{KeepsFound}
 use Rattle.il_control.specs.Lent.{Hands, HandsOver, IsLentNow, LendBroken, LendMade, LentSo, PolledUntil, TctLost, controller_at}
 use Rattle.il_control.specs.Receives.{Asked}
 use Rattle.il_control.proofs.Calls.{Done, broke_before, broke_before_break, broke_before_standing, broke_behind, broke_behind_break, broke_behind_standing, cut_within, plain_call, room_behind, whole_then}
@@ -258,9 +257,9 @@ module _ {M : Type 0} (view : M → MediumView) (a limit : ℕ) (q : RingView M)
             let back : 33 ≤ spare_of (taken_back m) = omega (arith, short, same, kept, lent, log, front, room, some_limit) in
             subst (λ t. 33 ≤ spare_of t) (sym (as_taken view a limit q m idle low so)) back
 
-        pub taken_made : (s : RingView M) → Whole view (about_to_send m) (commanded 0 ifc) s → IsUnderHost s.guest → KeepsFound m s → LendMade a limit true q s
-        taken_made s whole host found =
-            lent_made view a limit q m idle low so s whole so.at (sym hands.0.hands ∙ hands_where view q r a idle some low asked) host (found so.found.entries so.found.found)
+        pub taken_made : (s : RingView M) → Whole view (about_to_send m) (commanded 0 ifc) s → IsUnderHost s.guest → LendMade a limit true q s
+        taken_made s whole host =
+            lent_made view a limit q m idle low so s whole so.at (sym hands.0.hands ∙ hands_where view q r a idle some low asked) host
 
-        pub taken_not : (s : RingView M) → Broke view (about_to_send m) (commanded 0 ifc) s → KeepsFound m s → (length s.books.log ≡ length (about_to_send m).books.log + 2 → IsUnderHost s.guest) → LendBroken a limit q s
-        taken_not s broke found ready = lent_not view a limit q m idle low so s broke so.at (sym hands.0.hands ∙ hands_where view q r a idle some low asked) (found so.found.entries so.found.found) ready
+        pub taken_not : (s : RingView M) → Broke view (about_to_send m) (commanded 0 ifc) s → (length s.books.log ≡ length (about_to_send m).books.log + 2 → IsUnderHost s.guest) → LendBroken a limit q s
+        taken_not s broke ready = lent_not view a limit q m idle low so s broke so.at (sym hands.0.hands ∙ hands_where view q r a idle some low asked) ready

@@ -5,7 +5,7 @@ use Rattle.il_control.proofs.LentMet.{met_since, risen_up}
 use Rattle.il_control.proofs.LentHost.{ifc_broke, ifc_whole, still_of}
 use Rattle.il_control.proofs.LendDrives.{told_behind, told_no_more}
 use Rattle.std.proofs.Common.{List, None, Option, Some, [], ap, append-nil, append_assoc, ap₂, arith, false, inl, inr, length, length-append, refl, subst, suc, sym, true, zero, ℕ, ⊎_elim, ◌*◌, ◌++◌, ◌+◌, ◌<◌, ◌==◌, ◌||◌, ◌∙◌, ◌∷◌, ◌≡◌, ◌≤◌, nat_le}
-use Rattle.std.specs.Prelude.{IfSome, get_or, if◌then◌else◌}
+use Rattle.std.specs.Prelude.{if◌then◌else◌}
 use Rattle.std.specs.List.{list_all}
 use Rattle.std.proofs.lemmas.Bool.{and_from, and_parts, eqb-true, le-leb, ne_eqb}
 use Rattle.std.proofs.lemmas.List.{append_cancel_left}
@@ -23,26 +23,25 @@ use Rattle.loop_model.specs.Leading.{controller_after, has_no_lend, roles_led}
 use Rattle.loop_model.specs.Roles.{roles_after, roles_along}
 use Rattle.loop_model.proofs.LeadingLaws.{roles_led-no_lend}
 use Rattle.il_ring.specs.Adds.{Adds}
-use Rattle.il_ring.specs.Guests.{GuestMind, IsUnderHost}
+use Rattle.il_ring.specs.Guests.{IsUnderHost}
 use Rattle.il_ring.specs.Polls.{is_no_poll}
 use Rattle.il_ring.specs.LedAdds.{LedSince, standing}
 use Rattle.il_ring.specs.Lending.{about_to_send, entry_where, taken_back, taken_back_where}
 use Rattle.il_ring.specs.Lends.{AtHost, handed_entries, lend_entries}
 use Rattle.il_ring.specs.Rings.{RingView, devices_of, drive_party}
 use Rattle.il_ring.specs.Turned.{is_on}
-use Rattle.il_ring.specs.Statuses.{answers_always, asked_all, last_told, told_by, ToldStatus}
+use Rattle.il_ring.specs.Statuses.{answers_always, asked_all, told_by, ToldStatus}
 use Rattle.il_ring.proofs.LedRings.{led_ring}
 use Rattle.il_ring.proofs.LedSince.{since_adds, since_append, since_back}
 use Rattle.il_control.specs.Calls.{Broke, IsIdle, Whole}
-use Rattle.il_control.specs.Found.{HasFound}
 use Rattle.il_control.specs.Lent.{DriveLeft, DriveTold, KeptSince, LendBroken, LendMade, LentBroke, LentSo, asked_on, base_of, last_of, controller_at}
 use Rattle.il_control.proofs.Calls.{cut_within}
 use Rattle.il_control.proofs.LendFronts.{cut_length, cut_on, kept_adds, kept_then, only_lost}
 use Rattle.il_control.proofs.LendSums.{lend_broken, lend_made, taken_not_back}
 use Rattle.il_control.proofs.LentAnswers.{answers-append, answers-front, are_mute-answers}
 use Rattle.il_control.proofs.LentEnds.{LendsSo, addresses_are, lent_cut, lent_cut-back, lent_lost, lent_lost-back, lent_lost-control, lent_whole, stands_so}
-use Rattle.il_control.proofs.LentFound.{standing_told}
-use Rattle.il_control.proofs.LentStatuses.{are_mute, handed-asks, ifc-cut, ifc-mute, is_mute, told-between, told-lent}
+use Rattle.il_control.proofs.LentDriveAnswers.{standing_told}
+use Rattle.il_control.proofs.LentStatuses.{are_mute, handed-asks, ifc-cut, ifc-mute, is_mute}
 use Rattle.il_control.proofs.LentSums.{are_theirs, control_stays, ends_theirs, is_theirs}
 
 -- ---- an IFC of the host, whoever controls
@@ -52,12 +51,6 @@ back_roles k other o rest none rs =
     let own : ((0 == k) || true) ≡ true = ap (λ b. b || true) other in
     ap (λ own. roles_led 0 (if own then roles_along 0 o 1 (message_of ifc) rs else rs) rest) own
     ∙ roles_led-no_lend (roles_along 0 o 1 (message_of ifc) rs) rest none
-
--- logs that tell the same
-has_told : (guest : Option GuestMind) (k : ℕ) (es fs : List Entry) → ((b : ℕ) → last_told k b es ≡ last_told k b fs) → IfSome guest (λ mind. (b : ℕ) → b ≤ 30 → get_or mind.found b None ≡ last_told k b es)
-    → IfSome guest (λ mind. (b : ℕ) → b ≤ 30 → get_or mind.found b None ≡ last_told k b fs)
-has_told None k es fs told has = tt
-has_told (Some mind) k es fs told has = λ b few. has b few ∙ told b
 
 pub where_short : (j : ℕ) (o : Option Flight) → length (entry_where j o) ≤ 1
 where_short j None = omega arith
@@ -135,7 +128,7 @@ module _ {M : Type 0} (view : M → MediumView) (a limit : ℕ) (q r : RingView 
       let short = so.polls.short in
       omega (arith, all, left, mid, stood, kept, lent, log, front, short, few)
 
-  -- the rounds of the log are those that it found statuses in
+  -- the rounds of the log are those in which the drive answered
   entries_for : (last entries : List Entry) → (r.books.log ++ standing k r.books) ++ last ≡ q.books.log ++ entries → entries ≡ handed_entries a k ++ (so.polls.entries ++ (standing k r.books ++ last))
   entries_for last entries is = append_cancel_left q.books.log entries (handed_entries a k ++ (so.polls.entries ++ (standing k r.books ++ last)))
       (sym is ∙ ap (λ log. (log ++ standing k r.books) ++ last) so.polls.log
@@ -143,26 +136,13 @@ module _ {M : Type 0} (view : M → MediumView) (a limit : ℕ) (q r : RingView 
       ∙ append_assoc (base_of a q) so.polls.entries (standing k r.books ++ last)
       ∙ append_assoc q.books.log (handed_entries a k) (so.polls.entries ++ (standing k r.books ++ last)))
 
-  found_for : (s : RingView M) (last entries : List Entry) → are_mute k last ≡ true → (r.books.log ++ standing k r.books) ++ last ≡ q.books.log ++ entries → length (devices_of s) ≡ k → HasFound so.found.entries s → HasFound entries s
-  found_for s last entries mute is many has = has_told s.guest (length (devices_of s)) so.found.entries entries told has
-    where
-      same : so.found.entries ≡ so.polls.entries
-      same = append_cancel_left (base_of a q) so.found.entries so.polls.entries (sym so.found.log ∙ so.polls.log)
-
-      told : (b : ℕ) → last_told (length (devices_of s)) b so.found.entries ≡ last_told (length (devices_of s)) b entries
-      told b =
-          subst (λ j. last_told j b so.found.entries ≡ last_told j b entries) (sym many)
-          (ap (last_told k b) same
-          ∙ sym (told-lent k b a so.polls.entries (standing k r.books) last host_other (standing_told view k own_last (Some k) (base_of a q) r limit so.polls) mute)
-          ∙ ap (last_told k b) (sym (entries_for last entries is)))
-
   -- the drive answers wherever it is asked in them
   answered_for : (last entries : List Entry) → are_mute k last ≡ true → (r.books.log ++ standing k r.books) ++ last ≡ q.books.log ++ entries → answers_always k (drive_party q) None entries ≡ true
   answered_for last entries mute is =
-      let same : so.found.entries ≡ so.polls.entries = append_cancel_left (base_of a q) so.found.entries so.polls.entries (sym so.found.log ∙ so.polls.log) in
+      let same : so.answers.entries ≡ so.polls.entries = append_cancel_left (base_of a q) so.answers.entries so.polls.entries (sym so.answers.log ∙ so.polls.log) in
       let party : drive_party r ≡ drive_party q = ap (λ n. n + 1) so.kept.before in
       let rounds : answers_always k (drive_party q) None so.polls.entries ≡ true =
-      sym (ap₂ (λ j p. answers_always j p None so.found.entries) so.polls.many party ∙ ap (answers_always k (drive_party q) None) same) ∙ so.found.answered in
+      sym (ap₂ (λ j p. answers_always j p None so.answers.entries) so.polls.many party ∙ ap (answers_always k (drive_party q) None) same) ∙ so.answers.answered in
       let behind = standing k r.books ++ last in
       let still : are_mute k behind ≡ true = list_all-append (is_mute k) (standing k r.books) last ∙ and_from (are_mute k (standing k r.books)) (are_mute k last) (standing_told view k own_last (Some k) (base_of a q) r limit so.polls) mute in
       ap (answers_always k (drive_party q) None) (entries_for last entries is)
@@ -189,9 +169,6 @@ module _ {M : Type 0} (view : M → MediumView) (a limit : ℕ) (q r : RingView 
     made_entries : lend_entries k (asked_on q) made_so.lend ≡ handed_entries a k ++ (so.polls.entries ++ (standing k r.books ++ commanded 0 ifc))
     made_entries = entries_for (commanded 0 ifc) (lend_entries k (asked_on q) made_so.lend) made_so.log_is
 
-    made_found : HasFound so.found.entries s → HasFound (lend_entries k (asked_on q) made_so.lend) s
-    made_found has = found_for s (commanded 0 ifc) (lend_entries k (asked_on q) made_so.lend) (ifc-mute k host_other) made_so.log_is made_since.size has
-
     made_drive : DriveTold q s (lend_entries k (asked_on q) made_so.lend)
     made_drive =
         let stays = ifc_whole view (taken_back r) s (returned 0 rfc ∷ []) refl refl its_whole in
@@ -211,9 +188,9 @@ module _ {M : Type 0} (view : M → MediumView) (a limit : ℕ) (q r : RingView 
     made_short : length (lend_entries k (asked_on q) made_so.lend) ≤ 2 * limit + 9
     made_short = long_so (commanded 0 ifc) (lend_entries k (asked_on q) made_so.lend) (omega arith) made_so.log_is
 
-    pub lent_made : a ≡ k → true ≡ controller_at a q → IsUnderHost s.guest → HasFound so.found.entries s → LendMade a limit true q s
-    lent_made at stands host has =
-        lend_made a limit 0 true q s idle made_so.lend made_so.is made_so.own made_so.whole_is made_so.address (λ taken. at) made_since made_kept made_short (λ taken. sym stands) (λ back. absurd (taken_not_back made_so.lend made_so.taken back)) (λ taken. made_found has) (λ not_taken. let clash = sym not_taken ∙ made_so.taken in cc)
+    pub lent_made : a ≡ k → true ≡ controller_at a q → IsUnderHost s.guest → LendMade a limit true q s
+    lent_made at stands host =
+        lend_made a limit 0 true q s idle made_so.lend made_so.is made_so.own made_so.whole_is made_so.address (λ taken. at) made_since made_kept made_short (λ taken. sym stands) (λ back. absurd (taken_not_back made_so.lend made_so.taken back)) (λ not_taken. let clash = sym not_taken ∙ made_so.taken in cc)
         (answered_for (commanded 0 ifc) (lend_entries k (asked_on q) made_so.lend) (ifc-mute k host_other) made_so.log_is) its_whole.ring
         refl true made_so.taken stands made_drive (λ not_taken. cc) host its_whole.held
 
@@ -267,10 +244,10 @@ module _ {M : Type 0} (view : M → MediumView) (a limit : ℕ) (q r : RingView 
           status = ⊎_elim (λ same. inl (still.status ∙ same)) (λ none. inr (still.status ∙ none)) left;
         }
 
-    pub lent_not : a ≡ k → true ≡ controller_at a q → HasFound so.found.entries s → (length s.books.log ≡ length (about_to_send r).books.log + 2 → IsUnderHost s.guest) → LendBroken a limit q s
-    lent_not at stands has ready =
+    pub lent_not : a ≡ k → true ≡ controller_at a q → (length s.books.log ≡ length (about_to_send r).books.log + 2 → IsUnderHost s.guest) → LendBroken a limit q s
+    lent_not at stands ready =
         lend_broken a limit 0 false q s idle lost_so.lend lost_so.is lost_so.own lost_so.whole_is lost_so.address (λ taken. at) lost_since lost_kept (long_so ended (lend_entries k (asked_on q) lost_so.lend) (cut_length (commanded 0 ifc) n lost.0) lost_so.log_is)
-        (λ taken. sym stands) (λ back. absurd (taken_not_back lost_so.lend lost_so.taken back)) (λ taken. found_for s ended (lend_entries k (asked_on q) lost_so.lend) (ifc-cut k n lost.0 host_other) lost_so.log_is lost_since.size has) (λ not_taken. let clash = sym not_taken ∙ lost_so.taken in cc)
+        (λ taken. sym stands) (λ back. absurd (taken_not_back lost_so.lend lost_so.taken back)) (λ not_taken. let clash = sym not_taken ∙ lost_so.taken in cc)
         (answered_for ended (lend_entries k (asked_on q) lost_so.lend) (ifc-cut k n lost.0 host_other) lost_so.log_is) its_broke.ring refl lost_drive its_broke.held
         (met_since q (taken_back r) s so.kept.plan (risen_up so.since.links q.books.crossings r.books.crossings idle.free.ring.crossings so.since.crossings) its_broke.met_some)
         (λ keeps. let clash = sym keeps ∙ lent_lost-control view k own_last (Some k) (base_of a q) r limit so.polls a q.books.log address lows refl n lost.0 less lost_on in cc)
@@ -307,30 +284,22 @@ module _ {M : Type 0} (view : M → MediumView) (a limit : ℕ) (q s : RingView 
   cut_other : (0 == length (devices_of q)) ≡ false
   cut_other = ne_eqb 0 (length (devices_of q)) (λ e. omega (arith, e, cut_some))
 
-  cut_entries : lend_entries (length (devices_of q)) (asked_on q) cut_so.lend ≡ handed_entries a (length (devices_of q)) ++ (off.found.entries ++ [])
-  cut_entries = append_cancel_left q.books.log (lend_entries (length (devices_of q)) (asked_on q) cut_so.lend) (handed_entries a (length (devices_of q)) ++ (off.found.entries ++ []))
-      (sym cut_so.log_is ∙ off.found.log ∙ append_assoc q.books.log (handed_entries a (length (devices_of q))) off.found.entries
-      ∙ ap (λ es. q.books.log ++ (handed_entries a (length (devices_of q)) ++ es)) (sym (append-nil off.found.entries)))
-
-  cut_found : HasFound (lend_entries (length (devices_of q)) (asked_on q) cut_so.lend) s
-  cut_found = has_told s.guest (length (devices_of s)) off.found.entries (lend_entries (length (devices_of q)) (asked_on q) cut_so.lend) told off.found.found
-    where
-      told : (b : ℕ) → last_told (length (devices_of s)) b off.found.entries ≡ last_told (length (devices_of s)) b (lend_entries (length (devices_of q)) (asked_on q) cut_so.lend)
-      told b =
-          subst (λ j. last_told j b off.found.entries ≡ last_told j b (lend_entries (length (devices_of q)) (asked_on q) cut_so.lend)) (sym cut_since.size)
-          (sym (told-between (length (devices_of q)) b (handed_entries a (length (devices_of q))) off.found.entries [] (handed-asks (length (devices_of q)) a cut_other) refl) ∙ ap (last_told (length (devices_of q)) b) (sym cut_entries))
+  cut_entries : lend_entries (length (devices_of q)) (asked_on q) cut_so.lend ≡ handed_entries a (length (devices_of q)) ++ (off.answers.entries ++ [])
+  cut_entries = append_cancel_left q.books.log (lend_entries (length (devices_of q)) (asked_on q) cut_so.lend) (handed_entries a (length (devices_of q)) ++ (off.answers.entries ++ []))
+      (sym cut_so.log_is ∙ off.answers.log ∙ append_assoc q.books.log (handed_entries a (length (devices_of q))) off.answers.entries
+      ∙ ap (λ es. q.books.log ++ (handed_entries a (length (devices_of q)) ++ es)) (sym (append-nil off.answers.entries)))
 
   cut_answered : answers_always (length (devices_of q)) (drive_party q) None (lend_entries (length (devices_of q)) (asked_on q) cut_so.lend) ≡ true
   cut_answered =
       let k = length (devices_of q) in
-      let rounds : answers_always k (drive_party q) None off.found.entries ≡ true =
-      sym (ap₂ (λ j p. answers_always j p None off.found.entries) cut_since.size (ap (λ n. n + 1) off.kept.before)) ∙ off.found.answered in
+      let rounds : answers_always k (drive_party q) None off.answers.entries ≡ true =
+      sym (ap₂ (λ j p. answers_always j p None off.answers.entries) cut_since.size (ap (λ n. n + 1) off.kept.before)) ∙ off.answers.answered in
       ap (answers_always k (drive_party q) None) cut_entries
-      ∙ answers-front k (drive_party q) (handed_entries a k) (off.found.entries ++ []) (handed-asks k a cut_other) (answers-append k (drive_party q) None off.found.entries [] rounds refl)
+      ∙ answers-front k (drive_party q) (handed_entries a k) (off.answers.entries ++ []) (handed-asks k a cut_other) (answers-append k (drive_party q) None off.answers.entries [] rounds refl)
 
   pub cut_broken : a ≡ length (devices_of q) → true ≡ controller_at a q → LendBroken a limit q s
   cut_broken at stands =
-      lend_broken a limit (length (devices_of q)) false q s idle cut_so.lend cut_so.is cut_so.own cut_so.whole_is cut_so.address (λ taken. at) cut_since off.kept cut_short (λ taken. sym stands) (λ back. absurd (taken_not_back cut_so.lend cut_so.taken back)) (λ taken. cut_found) (λ not_taken. let clash = sym not_taken ∙ cut_so.taken in cc) cut_answered
+      lend_broken a limit (length (devices_of q)) false q s idle cut_so.lend cut_so.is cut_so.own cut_so.whole_is cut_so.address (λ taken. at) cut_since off.kept cut_short (λ taken. sym stands) (λ back. absurd (taken_not_back cut_so.lend cut_so.taken back)) (λ not_taken. let clash = sym not_taken ∙ cut_so.taken in cc) cut_answered
       (led_ring s off.led off.off.lent_is) refl off.drive off.led.held
       off.met (λ keeps. off.led.leads)
       (λ back. let clash = sym back ∙ lent_cut-back view (length (devices_of q)) (last_of q.guest) (Some (length (devices_of q))) (base_of a q) s off.arrived limit a q.books.log off.off off.few (le-leb a 30 low) (addresses_are (Some (length (devices_of q))) (last_of q.guest) off.few_asked) refl in cc)

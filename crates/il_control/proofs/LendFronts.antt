@@ -130,7 +130,7 @@ module _ {M : Type 0} (view : M → MediumView) (a limit : ℕ) (q s : RingView 
       lend_made a limit 0 true q s idle (NoTaker a) (le-leb a 30 low) refl refl refl (λ taken. cc)
       (host_since (refused_entries a) whole.adds whole.ring.lent whole.ring.kept refl)
       (kept_adds view None q s (refused_entries a) whole.adds (whole.unheard refl) (refused_no_poll a low))
-      (omega arith) (λ taken. cc) (λ back. sym stands) (λ taken. cc) (λ not_taken. whole.adds.guest.1 idle.host) (hosts-answers (length (devices_of q)) (drive_party q) other (refused_entries a) refl)
+      (omega arith) (λ taken. cc) (λ back. sym stands) (λ not_taken. whole.adds.guest.1 idle.host) (hosts-answers (length (devices_of q)) (drive_party q) other (refused_entries a) refl)
       whole.ring refl false refl stands (refused_told view q s a idle low whole) (λ not_taken. whole.met_none) host whole.held
 
   pub refused_broken : (broke : Broke view q (refused_entries a) s) → ((p : ℕ) → broke.break ≡ FrameLost p → came_back (NoTakerCut a broke.standing p) ≡ true → controller_at a q ≡ false) → LendBroken a limit q s
@@ -146,7 +146,7 @@ module _ {M : Type 0} (view : M → MediumView) (a limit : ℕ) (q s : RingView 
       refl refl refl (λ taken. cc)
       (host_since entries adds broke.ring.lent broke.ring.kept (cut_no_lend (refused_entries a) n lost.0 refl))
       (kept_adds view None q s entries adds (broke.unheard refl) (cut_no_poll (refused_entries a) n lost.0 (refused_no_poll a low)))
-      (let many = cut_length (refused_entries a) n lost.0 in omega (arith, many)) (λ taken. cc) (refused lost.0 lost.1) (λ taken. cc) (λ not_taken. broke.adds.guest.1 idle.host)
+      (let many = cut_length (refused_entries a) n lost.0 in omega (arith, many)) (λ taken. cc) (refused lost.0 lost.1) (λ not_taken. broke.adds.guest.1 idle.host)
       (hosts-answers (length (devices_of q)) (drive_party q) other entries (cut_hosts (refused_entries a) n lost.0 refl))
       broke.ring refl (refused_left view q s a idle low broke) broke.held
       broke.met_some (λ keeps. cc) (λ back. cc)

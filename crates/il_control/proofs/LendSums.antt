@@ -19,7 +19,6 @@ use Rattle.il_ring.proofs.LedSince.{none_stands}
 use Rattle.il_ring.proofs.LendLaws.{lend_led}
 use Rattle.il_ring.proofs.LendTalkers.{lend_idle, lend_one_talker}
 use Rattle.il_control.specs.Calls.{IsIdle}
-use Rattle.il_control.specs.Found.{HasFound}
 use Rattle.il_control.specs.Lent.{DriveLeft, DriveTold, KeptSince, LendBroken, LendMade, Lends, asked_on, controller_at}
 
 -- where control was taken TCT did not come back
@@ -39,7 +38,7 @@ one_led c rs (e ∷ log) one =
     one_led (controller_after_entry c e) (roles_led_entry c rs e) log rest.1
 
 module _ {M : Type 0} (a limit d : ℕ) (whole : Bool) (q s : RingView M) (idle : IsIdle q) (lend : Lend) (is : is_lend (length (devices_of q)) (asked_on q) limit lend ≡ true) (own : tells_own (asked_on q) lend ≡ true) (whole_is : is_whole_lend lend ≡ whole)
-    (address : lend_address lend ≡ a) (at : was_taken lend ≡ true → a ≡ length (devices_of q)) (since : LedSince 0 d q s (lend_entries (length (devices_of q)) (asked_on q) lend)) (kept : KeptSince q s) (short : length (lend_entries (length (devices_of q)) (asked_on q) lend) ≤ 2 * limit + 9) (taker : was_taken lend ≡ true → controller_at a q ≡ true) (refused : came_back lend ≡ true → controller_at a q ≡ false) (found : was_taken lend ≡ true → HasFound (lend_entries (length (devices_of q)) (asked_on q) lend) s) (same_guest : was_taken lend ≡ false → s.guest ≡ q.guest) (answered : answers_always (length (devices_of q)) (drive_party q) None (lend_entries (length (devices_of q)) (asked_on q) lend) ≡ true) (ring : IsRing s) where
+    (address : lend_address lend ≡ a) (at : was_taken lend ≡ true → a ≡ length (devices_of q)) (since : LedSince 0 d q s (lend_entries (length (devices_of q)) (asked_on q) lend)) (kept : KeptSince q s) (short : length (lend_entries (length (devices_of q)) (asked_on q) lend) ≤ 2 * limit + 9) (taker : was_taken lend ≡ true → controller_at a q ≡ true) (refused : came_back lend ≡ true → controller_at a q ≡ false) (same_guest : was_taken lend ≡ false → s.guest ≡ q.guest) (answered : answers_always (length (devices_of q)) (drive_party q) None (lend_entries (length (devices_of q)) (asked_on q) lend) ≡ true) (ring : IsRing s) where
   abbrev k : ℕ
   k = length (devices_of q)
 
@@ -93,7 +92,6 @@ module _ {M : Type 0} (a limit d : ℕ) (whole : Bool) (q s : RingView M) (idle 
     commands = lend_led k some (asked_on q) limit lend is;
     taker = taker;
     refused = refused;
-    found = found;
     answered = answered;
     guest = same_guest;
   }
@@ -120,7 +118,6 @@ module _ {M : Type 0} (a limit d : ℕ) (whole : Bool) (q s : RingView M) (idle 
     commands = lends.commands;
     taker = taker;
     refused = refused;
-    found = found;
     answered = answered;
     guest = same_guest;
   }

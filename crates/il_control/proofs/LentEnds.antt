@@ -25,7 +25,7 @@ use Rattle.il_ring.specs.Lending.{entry_where}
 use Rattle.il_ring.specs.Lends.{AtHost, Lend, Lent, LentCut, LentLost, RoundsEnd, are_rounds, arrivals, arrivals_in, can_end, ended_after, handed_entries, is_break_end, is_lend, is_one_status, is_whole_lend, keeps_control, lend_address, lend_entries, rounds_entries, stands_at_last, tells_own, took_back, was_taken}
 use Rattle.il_ring.specs.Remaining.{BeginRounds, from_command, from_ready, from_start, from_unt}
 use Rattle.il_ring.specs.Rings.{RingView}
-use Rattle.il_ring.proofs.LedCounts.{at_host, at_party}
+use Rattle.il_ring.proofs.EntryMeasures.{at_host, at_party}
 use Rattle.il_control.proofs.LentCommands.{command_due, ready_due}
 use Rattle.il_control.proofs.LentPolls.{RoundsEndSo, byte_stands, command_no_nrd, ends_at, nrd_stands, own_echo, own_echo-is, own_stands}
 use Rattle.il_control.proofs.LentTelling.{within}

@@ -33,7 +33,7 @@ use Rattle.il_control.proofs.LentBytes.{ByteAltered, ByteBack, ByteGone, NrdGone
 use Rattle.il_control.proofs.LentCommands.{command_other, said_other}
 use Rattle.il_control.proofs.LentMoves.{MovedOn, MoveLost, plain_move}
 use Rattle.il_control.proofs.LentPlaces.{AskedSince, command_plain, since_one}
-use Rattle.il_control.proofs.LentFound.{then_own}
+use Rattle.il_control.proofs.LentDriveAnswers.{then_own}
 use Rattle.il_control.proofs.LentRings.{own_ring}
 use Rattle.il_control.proofs.LentRounds.{Passed, own_so, turned_same}
 use Rattle.il_control.proofs.LentStarts.{NoStatus, StartLostAt, StatusHeld, StatusLost, rest, start_move}

@@ -33,7 +33,7 @@ use Rattle.il_ring.proofs.LedKeeps.{led_keeps}
 use Rattle.il_control.specs.Lent.{IsLentNow, KeptSince, LentBroke, LentSo, PolledUntil, PolledSoFar, base_of, last_of}
 use Rattle.il_control.specs.Polling.{BrokeOff, Polling}
 use Rattle.il_control.proofs.LentDrive.{drive_left, drive_went}
-use Rattle.il_control.proofs.LentFound.{found_left, found_passes}
+use Rattle.il_control.proofs.LentDriveAnswers.{answers_left, answers_passes}
 use Rattle.il_ring.specs.Flights.{HasAltered}
 use Rattle.il_ring.proofs.LedAltered.{led_altered}
 use Rattle.il_control.proofs.LentMet.{breaks_met, met_since, met_until, risen_up}
@@ -199,7 +199,7 @@ module _ {M : Type 0} (view : M → MediumView) (a : ℕ) (q r s : RingView M) (
     -- a frame came to the host
     pub pass_goes : (g : Frame) → answer ≡ arrival.Frame g → LentSo view a q s (arrived + 1)
     pass_goes g is = ⊎_elim
-        (λ polls. record { at = so.at; few_asked = so.few_asked; polls = polls; added = so.added ++ adds.counts.entries; since = since; kept = kept; deaf = keeps.deaf stood.2.no_listener so.deaf; found = found_passes view k own_last (Some k) (base_of a q) r s arrived answer so.polls (passed so.polls.led) (led so.polls.led).0 so.found polls; drive = (drive_went view k own_last (Some k) (base_of a q) r s arrived answer so.polls (passed so.polls.led) (led so.polls.led).0 q.drive so.drive).on (stands_mute view k own_last (Some k) (base_of a q) s (arrived + 1) polls).0 (stands_mute view k own_last (Some k) (base_of a q) s (arrived + 1) polls).1; from = so.from; altered = altered_on })
+        (λ polls. record { at = so.at; few_asked = so.few_asked; polls = polls; added = so.added ++ adds.counts.entries; since = since; kept = kept; deaf = keeps.deaf stood.2.no_listener so.deaf; answers = answers_passes view k own_last (Some k) (base_of a q) r s arrived answer so.polls (passed so.polls.led) (led so.polls.led).0 so.answers polls; drive = (drive_went view k own_last (Some k) (base_of a q) r s arrived answer so.polls (passed so.polls.led) (led so.polls.led).0 q.drive so.drive).on (stands_mute view k own_last (Some k) (base_of a q) s (arrived + 1) polls).0 (stands_mute view k own_last (Some k) (base_of a q) s (arrived + 1) polls).1; from = so.from; altered = altered_on })
         (λ off. let now = subst (λ answer. StandsNow answer s.books.lent) is (led so.polls.led).1 in let clash = sym off.lent_is ∙ now.1 in cc)
         next
 
@@ -210,7 +210,7 @@ module _ {M : Type 0} (view : M → MediumView) (a : ℕ) (q r s : RingView M) (
         let then_ = stands_mute view k own_last (Some k) (base_of a q) s (arrived + 1) polls in
         let now = subst (λ answer. StandsNow answer s.books.lent) is (led so.polls.led).1 in
         let clash = sym now ∙ then_.1 in cc)
-        (λ off. record { at = so.at; few_asked = so.few_asked; arrived = arrived + 1; few = omega (arith, less); off = off; led = (led so.polls.led).0; added = so.added ++ adds.counts.entries; since = since; kept = kept; found = found_left view k own_last (Some k) (base_of a q) r s arrived answer so.polls (passed so.polls.led) (led so.polls.led).0 so.found; drive = drive_left view k own_last (Some k) (base_of a q) r s arrived answer so.polls (passed so.polls.led) (led so.polls.led).0 q.drive so.drive; met = met_now (⊎_elim (λ some. inr some) (λ way. inl way) (breaks_met view k own_last (Some k) (base_of a q) r s arrived answer so.polls (passed so.polls.led) (led so.polls.led).0 off.lent_is)) })
+        (λ off. record { at = so.at; few_asked = so.few_asked; arrived = arrived + 1; few = omega (arith, less); off = off; led = (led so.polls.led).0; added = so.added ++ adds.counts.entries; since = since; kept = kept; answers = answers_left view k own_last (Some k) (base_of a q) r s arrived answer so.polls (passed so.polls.led) (led so.polls.led).0 so.answers; drive = drive_left view k own_last (Some k) (base_of a q) r s arrived answer so.polls (passed so.polls.led) (led so.polls.led).0 q.drive so.drive; met = met_now (⊎_elim (λ some. inr some) (λ way. inl way) (breaks_met view k own_last (Some k) (base_of a q) r s arrived answer so.polls (passed so.polls.led) (led so.polls.led).0 off.lent_is)) })
         next
 
 -- ---- all passes

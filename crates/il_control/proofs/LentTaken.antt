@@ -32,7 +32,7 @@ use Rattle.il_ring.specs.Polls.{is_poll}
 use Rattle.il_ring.specs.Rings.{RingView, devices_of, drive_party, roles_of}
 use Rattle.il_ring.specs.Turned.{StandsNot, StandsThere}
 use Rattle.il_ring.proofs.HandedCounts.{handed_counts}
-use Rattle.il_ring.proofs.LedCounts.{at_host}
+use Rattle.il_ring.proofs.EntryMeasures.{at_host}
 use Rattle.il_ring.proofs.LedKeeps.{handed_keeps}
 use Rattle.il_ring.proofs.LedSince.{none_stands, since_adds, since_append}
 use Rattle.il_ring.proofs.LedTalkers.{kept_entry}
@@ -42,7 +42,7 @@ use Rattle.il_control.specs.Polling.{BrokeOff, Polling}
 use Rattle.il_control.specs.Receives.{Asked, IsCalm}
 use Rattle.il_control.proofs.LendFronts.{kept_adds}
 use Rattle.il_control.proofs.LendHands.{asked_guest, asked_host, handed_address, handed_at, handed_numbered, handed_silent, talks_last}
-use Rattle.il_control.proofs.LentFound.{found_gone, found_handed, handed_few}
+use Rattle.il_control.proofs.LentDriveAnswers.{answers_gone, answers_handed, handed_few}
 use Rattle.il_control.proofs.LentHanded.{handed_base, handed_polls, tct_roles}
 use Rattle.il_control.proofs.IdleDrives.{idle_silent}
 use Rattle.il_control.proofs.LentHost.{StaysDeaf, drive_handed, drive_handed_left, tad_plain, unl_whole}
@@ -210,7 +210,7 @@ module _ {M : Type 0} (view : M → MediumView) (q r s : RingView M) (a : ℕ) (
             since = all_since entries (hand_since entries are refl (ap (λ es. list_all (λ e. not (changes_roles (message_of e.frame))) (entries ++ es)) stood));
             kept = kept;
             deaf = deaf;
-            found = found_handed view r s (sourced 0 tct) answer round under over (base_of a q) (at_host_now.log_is ∙ base_is);
+            answers = answers_handed view r s (sourced 0 tct) answer round under over (base_of a q) (at_host_now.log_is ∙ base_is);
             drive = drive_so (base_of a q) (drive_handed view r s answer round front_drive.mild front_drive.deaf over (base_of a q) (entry 0 tct (outcome.Taken (length (devices_of r))) ∷ []) over.out.0 (at_host_now.log_is ∙ base_is) at_host_now);
           }))
           (λ off. let clash = sym off.lent_is ∙ at_host_now.lent_is in cc)
@@ -235,7 +235,7 @@ module _ {M : Type 0} (view : M → MediumView) (q r s : RingView M) (a : ℕ) (
             added = receive_front 0 a None ++ entries;
             since = all_since entries (hand_since entries are controls (ap (λ es. list_all (λ e. not (changes_roles (message_of e.frame))) (entries ++ es)) stood));
             kept = kept;
-            found = found_gone view r s (sourced 0 tct) answer round under over (base_of a q) (length (devices_of r)) (stood_not.0.log_is ∙ sym (append_assoc r.books.log (entry 0 tct (outcome.Taken (length (devices_of r))) ∷ []) (entry (length (devices_of r)) nop (outcome.Lost 0) ∷ [])) ∙ ap (λ base. base ++ entry (length (devices_of r)) nop (outcome.Lost 0) ∷ []) base_is);
+            answers = answers_gone view r s (sourced 0 tct) answer round under over (base_of a q) (length (devices_of r)) (stood_not.0.log_is ∙ sym (append_assoc r.books.log (entry 0 tct (outcome.Taken (length (devices_of r))) ∷ []) (entry (length (devices_of r)) nop (outcome.Lost 0) ∷ [])) ∙ ap (λ base. base ++ entry (length (devices_of r)) nop (outcome.Lost 0) ∷ []) base_is);
             drive = left_so (drive_handed_left view r s answer round front_drive.mild);
             met =
                 let low = risen_up front_since.links q.books.crossings r.books.crossings idle.free.ring.crossings front_since.crossings in

@@ -1,4 +1,4 @@
--- What a lend tells of the drive, and what its second controller has found.
+-- What a lend tells of the drive.
 use Rattle.std.specs.Prelude.{Bool, IsSome, List, MatchBool, None, Option, Some, [], false, is_some, length, sum_by, true, ℕ, ◌&&◌, ◌*◌, ◌++◌, ◌+◌, ◌∷◌, ◌≡◌, ◌≢◌, ◌≤◌, ◌⊎◌}
 use Rattle.il_frames.specs.declared.entry.Entry.{Entry}
 use Rattle.il_frames.specs.Frames.{byte_of}
@@ -28,7 +28,7 @@ use Rattle.il_ring.specs.Outcomes.{IsDeaf, met_between}
 use Rattle.il_ring.specs.Plans.{last_crossing}
 use Rattle.il_ring.specs.Polls.{KeepsPlace}
 use Rattle.il_control.specs.Calls.{Broke, IsIdle, IsLost, Unheard, Whole}
-use Rattle.il_control.specs.Found.{FoundLeft, FoundSo, HasFound}
+use Rattle.il_control.specs.DriveAnswers.{AnswersBrokeOff, AnswersPolling}
 use Rattle.il_control.specs.Polling.{BrokeOff, Polling}
 use Rattle.il_ring.specs.declared.flight.Flight.{Flight}
 use Rattle.il_ring.specs.Rings.{RingView, devices_of, drive_party, roles_of}
@@ -94,7 +94,7 @@ pub record LentSo {M : Type 0} (view : M → MediumView) (a : ℕ) (q r : RingVi
   pub since : LedSince 0 (length (devices_of q)) q r added
   pub kept : KeptSince q r
   pub deaf : Each IsDeaf 1 (devices_of r)
-  pub found : FoundSo (base_of a q) r
+  pub answers : AnswersPolling (base_of a q) r
   pub drive : DriveMild q.drive (base_of a q) r
   pub altered : HasAltered r.books.lent ⊎ HasAltered r.books.kept → met_between q r ≢ []
 
@@ -109,7 +109,7 @@ pub record LentBroke {M : Type 0} (view : M → MediumView) (a : ℕ) (q : RingV
   pub added : List Entry
   pub since : LedSince 0 (length (devices_of q)) q s added
   pub kept : KeptSince q s
-  pub found : FoundLeft (base_of a q) s
+  pub answers : AnswersBrokeOff (base_of a q) s
   pub drive : DriveLeft q.drive s.drive
   pub met : met_between q s ≢ []
 
@@ -140,8 +140,8 @@ controller_at a q = is_some q.guest && last_at a q.after
 -- The log grew by the entries of a lend of address a, whole or broken off, and these count for the links that were
 -- crossed, for the frames that came to each device, and for the roles. At most one party talked at every moment, and only
 -- the talker spoke; each command was the controller's. Where a second controller stands at that address TCT does not come
--- back, and only there control is taken; what it has found then is what the log tells. The drive answers wherever it asks the
--- drive. Where control was not taken, a second controller has the same in mind as before.
+-- back, and only there control is taken. The drive answers wherever it asks the drive. Where control was not taken, a second
+-- controller has the same in mind as before.
 pub record Lends {M : Type 0} (a limit : ℕ) (whole : Bool) (q s : RingView M) : Type 0 where
   pub lend : Lend
   pub is : is_lend (length (devices_of q)) (asked_on q) limit lend ≡ true
@@ -161,7 +161,6 @@ pub record Lends {M : Type 0} (a limit : ℕ) (whole : Bool) (q s : RingView M) 
   pub commands : are_commands_led 0 (lend_entries (length (devices_of q)) (asked_on q) lend) ≡ true
   pub taker : was_taken lend ≡ true → controller_at a q ≡ true
   pub refused : came_back lend ≡ true → controller_at a q ≡ false
-  pub found : was_taken lend ≡ true → HasFound (lend_entries (length (devices_of q)) (asked_on q) lend) s
   pub answered : answers_always (length (devices_of q)) (drive_party q) None (lend_entries (length (devices_of q)) (asked_on q) lend) ≡ true
   pub guest : was_taken lend ≡ false → s.guest ≡ q.guest
 

@@ -10,8 +10,8 @@ ghost use Rattle.il_control.specs.Calls.{idy, IsIdle, IsLost, is_command, Made, 
 
 pub use crate::lending::lend;
 pub use crate::receiving::receive;
-use crate::{frames, rounds};
-use il_frames::Frame;
+use crate::rounds;
+use il_frames::{Frame, Message};
 use il_ports::Medium;
 use il_ring::{Arrival, Ring, Seen};
 
@@ -32,8 +32,9 @@ pub fn resume<M: Medium>(ring: &mut Ring<M>) -> Result<u8, Broken>
     if !rounds::clear(ring) {
         return Err(Broken);
     }
-    match ring.send(frames::aad()) {
-        Arrival::Frame(back) => Ok(back.byte() - 0x81),
+    let first = Frame::of(Message::Aad(1));
+    match ring.send(first) {
+        Arrival::Frame(back) => Ok(back.byte() - first.byte()),
         Arrival::Lost => Err(Broken),
     }
 }
@@ -68,7 +69,7 @@ pub fn identify<M: Medium>(ring: &mut Ring<M>) -> Result<Frame, Broken>
     // No device hears anything, and each keeps its place in the poll and its wish for service.
     ensures stays { AllStay true (⟦<Ring<M> as Seen<M>>⟧.seen ring.old) (⟦<Ring<M> as Seen<M>>⟧.seen ring.new) }
 {
-    match ring.send(frames::idy()) {
+    match ring.send(Frame::of(Message::Idy(0))) {
         Arrival::Frame(frame) => Ok(frame),
         Arrival::Lost => Err(Broken),
     }
@@ -96,7 +97,8 @@ pub fn listen<M: Medium>(ring: &mut Ring<M>, address: u8, number: Option<u8>) ->
 }
 
 /// Sends a byte, which each listening device hears. It was sent where its frame came back the
-/// same apart from the service bit.
+/// same apart from the service bit. It is inlined, with its round, where a record's bytes are sent one after the other.
+#[inline(always)]
 pub fn send_byte<M: Medium>(ring: &mut Ring<M>, byte: u8) -> Result<(), Broken>
     requires room { 33 ≤ spare_of (⟦<Ring<M> as Seen<M>>⟧.seen ring.old) }
     requires idle { IsIdle (⟦<Ring<M> as Seen<M>>⟧.seen ring.old) }

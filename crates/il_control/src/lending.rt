@@ -6,9 +6,9 @@ ghost use Rattle.il_control.specs.Calls.{IsFree, IsIdle};
 ghost use Rattle.il_control.specs.Lent.{HandsOver, IsLentNow, LendBroken, LendMade, PolledUntil};
 
 use crate::exchanges::Broken;
-use crate::frames::{tct, unt};
 use crate::receiving::ask;
 use crate::rounds::{clear_interface, command};
+use il_frames::{Frame, Message};
 use il_ports::Medium;
 use il_ring::{Arrival, Ring, Seen};
 
@@ -30,7 +30,7 @@ fn hand_over<M: Medium>(ring: &mut Ring<M>) -> Handed
     requires host { IsUnderHost (⟦<Ring<M> as Seen<M>>⟧.seen ring.old).guest }
     ensures { HandsOver M.view (⟦<Ring<M> as Seen<M>>⟧.seen ring.old) result (⟦<Ring<M> as Seen<M>>⟧.seen ring.new) }
 {
-    match ring.send(tct()) {
+    match ring.send(Frame::of(Message::Tct)) {
         Arrival::Lost => Handed::Broken,
         Arrival::Frame(_) => {
             if ring.is_lent() {
@@ -81,7 +81,7 @@ pub fn lend<M: Medium>(ring: &mut Ring<M>, address: u8, limit: u16) -> Result<bo
     match hand_over(ring) {
         Handed::Broken => Err(Broken),
         Handed::NotTaken => {
-            if command(ring, unt()) {
+            if command(ring, Frame::of(Message::Unt)) {
                 Ok(false)
             } else {
                 Err(Broken)

@@ -11,10 +11,11 @@ ghost use Rattle.il_control.specs.Calls.{Whole, Broke, IsFree, IsIdle};
 ghost use Rattle.il_control.specs.Receives.{Asked, IsCalm, IsDeaf, IsHolding, IsOnward, WentAs, Begins, Fronts, Stops, TakesBytes, Answered, NotAnswered, start_of, Received, NotReceived};
 
 use crate::exchanges::Broken;
-use crate::frames::{Sot, ddt, eto, nrd, tad, unl, unt};
+use crate::frames::Sot;
 use crate::rounds::command;
+use il_frames::{Frame, Message};
 use il_ports::Medium;
-use il_ring::{Arrival, Ring, Seen};
+use il_ring::{Arrival, Ring, Running, Seen};
 
 /// What became of a start message.
 #[derive(Clone, Copy)]
@@ -60,7 +61,7 @@ pub(crate) fn ask<M: Medium>(ring: &mut Ring<M>, address: u8, number: Option<u8>
         (Broke M.view (⟦<Ring<M> as Seen<M>>⟧.seen ring.old) (receive_front 0 address number) (⟦<Ring<M> as Seen<M>>⟧.seen ring.new)) }
     ensures host { IsUnderHost (⟦<Ring<M> as Seen<M>>⟧.seen ring.new).guest }
 {
-    command(ring, unl()) && ask_one(ring, address, number)
+    command(ring, Frame::of(Message::Unl)) && ask_one(ring, address, number)
 }
 
 /// Has the device of this address talk, and sends the DDT of a number behind that.
@@ -75,7 +76,7 @@ fn ask_one<M: Medium>(ring: &mut Ring<M>, address: u8, number: Option<u8>) -> bo
     ensures calm { result ≡ true → Each IsDeaf 1 (devices_of (⟦<Ring<M> as Seen<M>>⟧.seen ring.old)) → Each IsCalm 1 (devices_of (⟦<Ring<M> as Seen<M>>⟧.seen ring.new)) }
     ensures host { IsUnderHost (⟦<Ring<M> as Seen<M>>⟧.seen ring.new).guest }
 {
-    command(ring, tad(address)) && command_of(ring, number)
+    command(ring, Frame::of(Message::Tad(address))) && command_of(ring, number)
 }
 
 /// Sends the DDT of a number, where one is given.
@@ -91,7 +92,7 @@ fn command_of<M: Medium>(ring: &mut Ring<M>, number: Option<u8>) -> bool
 {
     match number {
         None => true,
-        Some(number) => command(ring, ddt(number)),
+        Some(number) => command(ring, Frame::of(Message::Ddt(number))),
     }
 }
 
@@ -125,7 +126,7 @@ fn onward_of(arrival: Arrival) -> Onward
         Arrival::Frame(frame) => {
             if frame.is_data() {
                 Onward::More
-            } else if frame == eto() {
+            } else if frame == Frame::of(Message::Eto) {
                 Onward::Ended
             } else {
                 Onward::Broken
@@ -143,6 +144,27 @@ fn relay<M: Medium>(ring: &mut Ring<M>) -> Onward
     onward_of(ring.relay())
 }
 
+/// The same, while it goes on again and again. It is inlined, as all that `take_on` calls is, so that the held frame
+/// can stay in registers from one byte to the next.
+#[inline(always)]
+fn relay_on<'r, M: Medium>(ring: &mut Running<'r, M>) -> Onward
+    requires room { 32 ≤ spare_of (⟦<Running<'r, M> as Seen<M>>⟧.seen ring.old) }
+    requires held { IsSome (⟦<Running<'r, M> as Seen<M>>⟧.seen ring.old).books.held }
+    ensures same_reference { ring.new.ring.ghost_name ≡ ring.old.ring.ghost_name }
+    ensures went { WentAs M.view (⟦<Running<'r, M> as Seen<M>>⟧.seen ring.old) result (⟦<Running<'r, M> as Seen<M>>⟧.seen ring.new) }
+{
+    onward_of(ring.relay())
+}
+
+/// The byte of the held frame.
+#[inline(always)]
+fn byte_on<'r, M: Medium>(ring: &Running<'r, M>) -> u8
+    requires held { IsSome (⟦<Running<'r, M> as Seen<M>>⟧.seen ring.now).books.held }
+    ensures { IfSome (⟦<Running<'r, M> as Seen<M>>⟧.seen ring.now).books.held (λ f. result ≡ byte_of f.now) }
+{
+    ring.held().unwrap().byte()
+}
+
 /// The byte of the held frame.
 fn held_byte<M: Medium>(ring: &Ring<M>) -> u8
     requires held { IsSome (⟦<Ring<M> as Seen<M>>⟧.seen ring.now).books.held }
@@ -157,11 +179,25 @@ fn take_front<M: Medium>(ring: &mut Ring<M>, front: &mut [u8]) -> Front
     requires holding { IsHolding (⟦<Ring<M> as Seen<M>>⟧.seen ring.old) }
     ensures { Fronts M.view (⟦<Ring<M> as Seen<M>>⟧.seen ring.old) front.old front.new result (⟦<Ring<M> as Seen<M>>⟧.seen ring.new) }
 {
+    let mut running = Running::new(ring);
+    let taken = take_on(&mut running, front);
+    running.hold();
+    taken
+}
+
+/// The same on a running ring: the held frame is in `ring` itself, and not behind a pointer.
+#[inline(always)]
+fn take_on<'r, M: Medium>(ring: &mut Running<'r, M>, front: &mut [u8]) -> Front
+    requires room { 34 + length front.old ≤ spare_of (⟦<Running<'r, M> as Seen<M>>⟧.seen ring.old) }
+    requires holding { IsHolding (⟦<Running<'r, M> as Seen<M>>⟧.seen ring.old) }
+    ensures same_reference { ring.new.ring.ghost_name ≡ ring.old.ring.ghost_name }
+    ensures fronts { Fronts M.view (⟦<Running<'r, M> as Seen<M>>⟧.seen ring.old) front.old front.new result (⟦<Running<'r, M> as Seen<M>>⟧.seen ring.new) }
+{
     let mut count = 0;
     for slot in front.iter_mut() {
-        *slot = held_byte(ring);
+        *slot = byte_on(ring);
         count += 1;
-        match relay(ring) {
+        match relay_on(ring) {
             Onward::More => {}
             Onward::Ended => return Front::Ended(count),
             Onward::Broken => return Front::Broken,
@@ -176,7 +212,7 @@ fn stop<M: Medium>(ring: &mut Ring<M>) -> bool
     requires holding { IsHolding (⟦<Ring<M> as Seen<M>>⟧.seen ring.old) }
     ensures { Stops M.view (⟦<Ring<M> as Seen<M>>⟧.seen ring.old) result (⟦<Ring<M> as Seen<M>>⟧.seen ring.new) }
 {
-    match ring.send(nrd()) {
+    match ring.send(Frame::of(Message::Nrd)) {
         Arrival::Lost => false,
         Arrival::Frame(_) => matches!(relay(ring), Onward::Ended),
     }
@@ -245,7 +281,7 @@ pub fn receive<M: Medium>(
     let Some(count) = answer(ring, start, into) else {
         return Err(Broken);
     };
-    if command(ring, unt()) {
+    if command(ring, Frame::of(Message::Unt)) {
         Ok(count)
     } else {
         Err(Broken)

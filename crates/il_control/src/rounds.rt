@@ -8,11 +8,9 @@ ghost use Rattle.il_guest.specs.Frames.{tct};
 ghost use Rattle.il_ring.specs.Guests.{IsUnderHost};
 ghost use Rattle.il_ring.specs.Lending.{about_to_send, hands_over};
 ghost use Rattle.il_ring.specs.Rings.{spare_of};
-ghost use Rattle.il_control.specs.Found.{KeepsFound};
 ghost use Rattle.il_control.specs.Calls.{arrives, AllStay, Obeyed, ObeyedInPart, Whole, Broke, IsFree, IsIdle, Sent, NotSent};
 
-use crate::frames::{aau, dab, ddl, ifc, lad, rfc, unl};
-use il_frames::Frame;
+use il_frames::{Class, Frame, Message};
 use il_ports::Medium;
 use il_ring::{Arrival, Ring, Seen};
 
@@ -55,7 +53,7 @@ pub(crate) fn command<M: Medium>(ring: &mut Ring<M>, frame: Frame) -> bool
     ensures part { ObeyedInPart (message_of frame) (⟦<Ring<M> as Seen<M>>⟧.seen ring.old) (⟦<Ring<M> as Seen<M>>⟧.seen ring.new) }
     ensures host { IsUnderHost (⟦<Ring<M> as Seen<M>>⟧.seen ring.new).guest }
 {
-    pass_round(ring, frame) && pass_round(ring, rfc())
+    pass_round(ring, frame) && pass_round(ring, Frame::of(Message::Rfc))
 }
 
 /// Has the device of this address listen, and no other, and sends the DDL of a number behind that.
@@ -69,7 +67,7 @@ pub(crate) fn tell<M: Medium>(ring: &mut Ring<M>, address: u8, number: Option<u8
         (Broke M.view (⟦<Ring<M> as Seen<M>>⟧.seen ring.old) (entries_of 0 (Send address number [])) (⟦<Ring<M> as Seen<M>>⟧.seen ring.new)) }
     ensures stays { AllStay (not (is_some number)) (⟦<Ring<M> as Seen<M>>⟧.seen ring.old) (⟦<Ring<M> as Seen<M>>⟧.seen ring.new) }
 {
-    command(ring, unl()) && tell_one(ring, address, number)
+    command(ring, Frame::of(Message::Unl)) && tell_one(ring, address, number)
 }
 
 /// Has the device of this address listen, and sends the DDL of a number behind that.
@@ -84,7 +82,7 @@ fn tell_one<M: Medium>(ring: &mut Ring<M>, address: u8, number: Option<u8>) -> b
     ensures stays { AllStay (not (is_some number)) (⟦<Ring<M> as Seen<M>>⟧.seen ring.old) (⟦<Ring<M> as Seen<M>>⟧.seen ring.new) }
     ensures host { IsUnderHost (⟦<Ring<M> as Seen<M>>⟧.seen ring.new).guest }
 {
-    command(ring, lad(address)) && command_of(ring, number)
+    command(ring, Frame::of(Message::Lad(address))) && command_of(ring, number)
 }
 
 /// Sends the DDL of a number, where one is given.
@@ -100,19 +98,21 @@ fn command_of<M: Medium>(ring: &mut Ring<M>, number: Option<u8>) -> bool
 {
     match number {
         None => true,
-        Some(number) => command(ring, ddl(number)),
+        Some(number) => command(ring, Frame::of(Message::Ddl(number))),
     }
 }
 
-/// Sends a byte, and tells whether its frame came back the same apart from the service bit.
+/// Sends a byte, and tells whether its frame came back the same apart from the service bit. An idle loop holds no frame
+/// and is the host's, so `send_soon` may send it.
+#[inline(always)]
 pub(crate) fn byte_round<M: Medium>(ring: &mut Ring<M>, byte: u8) -> bool
     requires room { 33 ≤ spare_of (⟦<Ring<M> as Seen<M>>⟧.seen ring.old) }
     requires idle { IsIdle (⟦<Ring<M> as Seen<M>>⟧.seen ring.old) }
     ensures { MatchBool result (Sent M.view byte (⟦<Ring<M> as Seen<M>>⟧.seen ring.old) (⟦<Ring<M> as Seen<M>>⟧.seen ring.new))
         (NotSent M.view byte (⟦<Ring<M> as Seen<M>>⟧.seen ring.old) (⟦<Ring<M> as Seen<M>>⟧.seen ring.new)) }
 {
-    let frame = dab(byte);
-    match ring.send(frame) {
+    let frame = Frame::new(Class::Dab, byte);
+    match ring.send_soon(frame) {
         Arrival::Frame(back) => frame.same_but_service(back),
         Arrival::Lost => false,
     }
@@ -127,10 +127,8 @@ fn take_control<M: Medium>(ring: &mut Ring<M>) -> bool
     ensures obeyed { result ≡ true → Obeyed (message_of ifc) (about_to_send (⟦<Ring<M> as Seen<M>>⟧.seen ring.old)) (⟦<Ring<M> as Seen<M>>⟧.seen ring.new) }
     ensures part { ObeyedInPart (message_of ifc) (about_to_send (⟦<Ring<M> as Seen<M>>⟧.seen ring.old)) (⟦<Ring<M> as Seen<M>>⟧.seen ring.new) }
     ensures host { result ≡ true → IsUnderHost (⟦<Ring<M> as Seen<M>>⟧.seen ring.new).guest }
-    // What a second controller has found stays.
-    ensures found { KeepsFound (⟦<Ring<M> as Seen<M>>⟧.seen ring.old) (⟦<Ring<M> as Seen<M>>⟧.seen ring.new) }
 {
-    came_back(ring.send(ifc()))
+    came_back(ring.send(Frame::of(Message::Ifc)))
 }
 
 /// Clears the interface, and waits for the handshake behind it.
@@ -144,10 +142,8 @@ pub(crate) fn clear_interface<M: Medium>(ring: &mut Ring<M>) -> bool
     ensures host { result ≡ true → IsUnderHost (⟦<Ring<M> as Seen<M>>⟧.seen ring.new).guest }
     // Where IFC came back the host controls, whatever became of the handshake.
     ensures ready { length (⟦<Ring<M> as Seen<M>>⟧.seen ring.new).books.log ≡ length (about_to_send (⟦<Ring<M> as Seen<M>>⟧.seen ring.old)).books.log + 2 → IsUnderHost (⟦<Ring<M> as Seen<M>>⟧.seen ring.new).guest }
-    // What a second controller has found stays.
-    ensures found { KeepsFound (⟦<Ring<M> as Seen<M>>⟧.seen ring.old) (⟦<Ring<M> as Seen<M>>⟧.seen ring.new) }
 {
-    take_control(ring) && pass_round(ring, rfc())
+    take_control(ring) && pass_round(ring, Frame::of(Message::Rfc))
 }
 
 /// Clears the interface and takes all addresses away.
@@ -159,5 +155,5 @@ pub(crate) fn clear<M: Medium>(ring: &mut Ring<M>) -> bool
     ensures stays { AllStay true (⟦<Ring<M> as Seen<M>>⟧.seen ring.old) (⟦<Ring<M> as Seen<M>>⟧.seen ring.new) }
     ensures host { result ≡ true → IsUnderHost (⟦<Ring<M> as Seen<M>>⟧.seen ring.new).guest }
 {
-    clear_interface(ring) && command(ring, aau())
+    clear_interface(ring) && command(ring, Frame::of(Message::Aau))
 }

@@ -19,15 +19,6 @@ use il_frames::{Class, Frame, Message};
 use il_poll::ServiceState;
 use std::marker::Model;
 
-/// The byte of ETO, end of transmission, OK.
-const ETO: u8 = 0x40;
-
-/// The byte of ETE, end of transmission, error.
-const ETE: u8 = 0x41;
-
-/// The byte of AAD 00. The frame behind AAD 30 is IAA.
-const FIRST_AAD: u8 = 0x80;
-
 /// A data or end frame that a device sent, and that has not come back to it.
 #[derive(Clone, Copy, PartialEq, Eq, Debug)]
 pub struct OwnFrame {
@@ -233,6 +224,9 @@ impl Interface {
     {
         let turn = if frame.is_data() {
             self.turn_at_data()
+        } else if frame.class() == Class::Rdy && frame.byte() == 0 {
+            // RFC follows every command and does nothing to a device, so its message is not looked for.
+            Turn::Pass
         } else {
             self.obey(frame)
         };
@@ -275,6 +269,11 @@ impl Interface {
     {
         if frame.is_data() {
             served(self.wants(), frame)
+        } else if frame.class() == Class::Cmd
+            || (frame.class() == Class::Rdy && frame.byte() == 0)
+        {
+            // No device changes a command or RFC. The class and the byte show that, so the message is not looked for.
+            frame
         } else {
             self.passed_other(before, frame)
         }
@@ -289,8 +288,9 @@ impl Interface {
     {
         match said(frame) {
             Message::Idy(_) | Message::Isr(_) => self.identified(frame),
+            // The next device gets the next address. After AAD 30 that frame is IAA.
             Message::Aad(address) if before.takes_address(address) => {
-                Frame::new(Class::Rdy, FIRST_AAD + address + 1)
+                Frame::new(Class::Rdy, frame.byte() + 1)
             }
             _ => frame,
         }
@@ -328,8 +328,7 @@ impl Interface {
         ensures standing { IsInterface self.new }
     {
         self.own = None;
-        let end = if echoed { ETO } else { ETE };
-        Out::Source(Frame::new(Class::Rdy, end))
+        Out::Source(Frame::of(if echoed { Message::Eto } else { Message::Ete }))
     }
 }
 

@@ -230,7 +230,9 @@ impl<M: Medium> Drive<M> {
 
     // ---- the tape
 
-    // The record at the position comes into buffer 0. It says whether it did.
+    // Reads the record at the position into buffer 0, and says whether it could. It is not inlined: it is called once
+    // in 256 bytes, and its 256 bytes of stack would slow every byte.
+    #[inline(never)]
     fn load(&mut self) -> bool
         ensures did { Did M.view (table.loaded (M.view self.old.medium).record_count self.old.state) (self.new.state, result)
             self.old.medium self.new.medium }
@@ -295,12 +297,13 @@ impl<M: Medium> Drive<M> {
         }
     }
 
-    // What a frame does that the drive passes. Data does nothing, and its message is not looked for.
+    // What a frame that the drive passes does. Only commands do something, and the class tells them, so the message of
+    // no other frame is looked for.
     #[inline(always)]
     fn obey_frame(&mut self, before: Roles, frame: Frame)
         ensures { Did M.view (table.obeyed (message_of frame) (M.view self.old.medium).record_count before self.old.state) self.new.state self.old.medium self.new.medium }
     {
-        if !frame.is_data() {
+        if frame.class() == Class::Cmd {
             self.obey(before, frame.message());
         }
     }
@@ -503,6 +506,27 @@ impl<M: Medium> Drive<M> {
         }
     }
 
+    // The byte that is due. After an echo it is mostly a byte of a record: that path has no call of `due` and no jump
+    // by the mode.
+    #[inline(always)]
+    fn due_soon(&mut self) -> Option<u8>
+        ensures { Did M.view (table.due (M.view self.old.medium).record_count self.old.state) (self.new.state, result) self.old.medium self.new.medium }
+    {
+        match self.mode {
+            Mode::Read => self.due_of_record(),
+            _ => self.due_apart(),
+        }
+    }
+
+    // The same in any mode. It is not inlined, so that `due`, which is inlined here, does not lengthen the path of a
+    // record's bytes.
+    #[inline(never)]
+    fn due_apart(&mut self) -> Option<u8>
+        ensures { Did M.view (table.due (M.view self.old.medium).record_count self.old.state) (self.new.state, result) self.old.medium self.new.medium }
+    {
+        self.due()
+    }
+
     // Behind the last byte of a buffer none is due.
     fn leave_byte(&mut self)
         ensures { self.new ≡ record self.old { state = table.after_byte self.old.state } }
@@ -514,6 +538,7 @@ impl<M: Medium> Drive<M> {
     }
 
     // At pointer 0 the record at the position is read first.
+    #[inline(always)]
     fn due_of_record(&mut self) -> Option<u8>
         ensures { Did M.view (table.due_of_record (M.view self.old.medium).record_count self.old.state) (self.new.state, result) self.old.medium self.new.medium }
     {
@@ -581,7 +606,7 @@ impl<M: Medium> Drive<M> {
             self.acknowledge();
             return self.end(true);
         }
-        match self.due() {
+        match self.due_soon() {
             Some(byte) => self.send(Start::Data, false, byte),
             None => self.end(true),
         }

@@ -1,8 +1,6 @@
 #![tactic(auto)]
 
 ghost use Rattle.std.specs.Prelude.{◌≡◌, ◌≤◌};
-ghost use Rattle.il_frames.specs.declared.frame.Class.TheVariants as class;
-ghost use Rattle.il_frames.specs.Frames.{framed};
 ghost use Rattle.il_frames.specs.NamedFrames.{is_frame};
 ghost use Rattle.il_guest.specs.Steps.{IsAsked, IsNumber, IsRoundPlace, IsControl, IsNoted, command_frame, sent_at, out_at, out_of};
 ghost use Rattle.il_guest.specs.Steps.{passed_over, command_then, control_after, told_at};
@@ -11,31 +9,7 @@ ghost use Rattle.il_guest.specs.declared.control.Command.TheVariants as command;
 ghost use Rattle.il_guest.specs.declared.control.Place.TheVariants as place;
 
 use crate::guest::GuestOut;
-use il_frames::{Class, Frame};
-
-/// The byte of NOP, no operation.
-const NOP: u8 = 0x10;
-
-/// The byte of UNL, unlisten.
-const UNL: u8 = 0x3F;
-
-/// The byte of TAD 00, talk address.
-const FIRST_TAD: u8 = 0x40;
-
-/// The byte of UNT, untalk.
-const UNT: u8 = 0x5F;
-
-/// The byte of RFC, ready for command.
-const RFC: u8 = 0x00;
-
-/// The byte of ETO, end of transmission, OK.
-const ETO: u8 = 0x40;
-
-/// The byte of NRD, not ready for data.
-const NRD: u8 = 0x42;
-
-/// The byte of SST, send status.
-const SST: u8 = 0x61;
+use il_frames::{Frame, Message};
 
 /// A command of the rounds. The address, 1 to 30, is the one that is asked for its status.
 #[derive(Clone, Copy, PartialEq, Eq, Debug)]
@@ -83,10 +57,10 @@ impl Command {
         ensures { result ≡ command_frame self }
     {
         match self {
-            Command::Nop => Frame::new(Class::Cmd, NOP),
-            Command::Unl(_) => Frame::new(Class::Cmd, UNL),
-            Command::Tad(address) => Frame::new(Class::Cmd, FIRST_TAD + address),
-            Command::Unt(_) => Frame::new(Class::Cmd, UNT),
+            Command::Nop => Frame::of(Message::Nop),
+            Command::Unl(_) => Frame::of(Message::Unl),
+            Command::Tad(address) => Frame::of(Message::Tad(address)),
+            Command::Unt(_) => Frame::of(Message::Unt),
         }
     }
 
@@ -114,9 +88,9 @@ impl Place {
     {
         match self {
             Place::Command(command) => command.frame(),
-            Place::Ready(_) => ready(RFC),
-            Place::Start(_) => ready(SST),
-            Place::Held(_, _) | Place::Relayed(_, _) => ready(NRD),
+            Place::Ready(_) => Frame::of(Message::Rfc),
+            Place::Start(_) => Frame::of(Message::Sst),
+            Place::Held(_, _) | Place::Relayed(_, _) => Frame::of(Message::Nrd),
         }
     }
 
@@ -130,15 +104,27 @@ impl Place {
     {
         match self {
             Place::Command(command) => expecting(frame, command.frame(), Place::Ready(command)),
-            Place::Ready(command) => expecting(frame, ready(RFC), command.next(own, last)),
+            Place::Ready(command) => expecting(
+                frame,
+                Frame::of(Message::Rfc),
+                command.next(own, last),
+            ),
             Place::Start(address) if frame.is_data() => Control::Rounds(Place::Held(
                 address, frame,
             )),
-            Place::Start(address) => expecting(frame, ready(SST), untalked(address)),
+            Place::Start(address) => expecting(frame, Frame::of(Message::Sst), untalked(address)),
             Place::Held(address, held) => {
-                expecting(frame, ready(NRD), Place::Relayed(address, held))
+                expecting(
+                    frame,
+                    Frame::of(Message::Nrd),
+                    Place::Relayed(address, held),
+                )
             }
-            Place::Relayed(address, _) => expecting(frame, ready(ETO), untalked(address)),
+            Place::Relayed(address, _) => expecting(
+                frame,
+                Frame::of(Message::Eto),
+                untalked(address),
+            ),
         }
     }
 
@@ -149,8 +135,8 @@ impl Place {
         ensures range { IsNoted result }
     {
         match self {
-            Place::Start(address) if frame == ready(SST) => Some((address, None)),
-            Place::Relayed(address, held) if frame == ready(ETO) => Some((
+            Place::Start(address) if frame == Frame::of(Message::Sst) => Some((address, None)),
+            Place::Relayed(address, held) if frame == Frame::of(Message::Eto) => Some((
                 address,
                 Some(held.byte()),
             )),
@@ -223,11 +209,4 @@ fn asking(own: Option<u8>, last: u8, address: u8) -> Command
     } else {
         Command::Nop
     }
-}
-
-/// The ready frame of that byte.
-fn ready(byte: u8) -> Frame
-    ensures { result ≡ framed class.Rdy byte }
-{
-    Frame::new(Class::Rdy, byte)
 }

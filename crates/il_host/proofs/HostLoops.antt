@@ -1,6 +1,6 @@
 -- A command that asks the devices of the loop, as a host performs it.
 use Rattle.std.proofs.Common.{◌≡◌, ◌∙◌, ◌≤◌, ◌+◌, ◌*◌, ◌++◌, ◌-◌, ◌^◌, ◌/◌, ◌<◌, ℕ, suc, false, List, length, Option, None, Some, option_map, refl, sym, ap, subst, arith}
-use Rattle.std.specs.Prelude.{IfSome, Result, Ok, Err, Bool, true, [], ◌∷◌, find, if◌then◌else◌, is_some}
+use Rattle.std.specs.Prelude.{Result, Ok, Err, Bool, true, [], ◌∷◌, find, if◌then◌else◌, is_some}
 use Rattle.std.specs.List.{All, position}
 use Rattle.std.proofs.lemmas.List.Elements.{All-head, All-tail}
 use Rattle.il_device.specs.State.{DeviceState}
@@ -275,17 +275,17 @@ module _ {M I : Type 0} {D : I → Type 0} (view : M → MediumView) (seen : Rin
 
         -- a second controller took control, and has found what it tells
         pub lend_told : (taken : Bool) → taken ≡ true → (guest : Option GuestState) (ring : RingView M) (told : LoopRecords M I D) → told ≡ l → ring ≡ (loop_in seen told).ring → guest_mind guest ≡ ring.guest
-            → IfSome guest (λ g. g.last ≤ 30) → LendCalls address frames (loop_in seen lends) (loop_in seen l) (Ok taken) → Behind (lent m l) (Asks (Lend frames)) reply.Ok (found_lines address guest ++ reply_line reply.Ok)
-        lend_told taken took guest ring told tells stands mind low did_so =
+            → (log : List Entry) → log ≡ ring.books.log → LendCalls address frames (loop_in seen lends) (loop_in seen l) (Ok taken) → Behind (lent m l) (Asks (Lend frames)) reply.Ok (found_lines address guest log ++ reply_line reply.Ok)
+        lend_told taken took guest ring told tells stands mind log logged did_so =
             let did : LendCalls address frames (loop_in seen lends) (loop_in seen l) (Ok true) = subst (λ taken. LendCalls address frames (loop_in seen lends) (loop_in seen l) (Ok taken)) took did_so in
             let ran = lend_performs view seen o.records.ring b.records.ring (loop_in seen o.records) (loop_in seen b.records)
             usable.volume_open.valid refl refl began x (loop_in seen lends) addressed l.ring (loop_in seen l) store usable.log left_lent
             address frames true by did in
-            lend_ended reply.Ok (found_lines address guest ++ reply_line reply.Ok) ran
+            lend_ended reply.Ok (found_lines address guest log ++ reply_line reply.Ok) ran
             (ap (λ lines. lines ++ reply_line reply.Ok)
-            (lend_lines view seen o.records.ring b.records.ring (loop_in seen o.records) (loop_in seen b.records)
+            (ap (found_lines address guest) (logged ∙ ap (λ (r : RingView M). r.books.log) (stands ∙ ap (λ (l : LoopRecords M I D). (loop_in seen l).ring) tells)) ∙ lend_lines view seen o.records.ring b.records.ring (loop_in seen o.records) (loop_in seen b.records)
             usable.volume_open.valid refl refl began x (loop_in seen lends) addressed l.ring (loop_in seen l) store usable.log left_lent
-            address frames by did guest (mind ∙ ap (λ (r : RingView M). r.guest) (stands ∙ ap (λ (l : LoopRecords M I D). (loop_in seen l).ring) tells)) low))
+            address frames by did guest (mind ∙ ap (λ (r : RingView M). r.guest) (stands ∙ ap (λ (l : LoopRecords M I D). (loop_in seen l).ring) tells))))
 
         -- nobody took it
         pub lend_not_taken : (taken : Bool) → taken ≡ false → LendCalls address frames (loop_in seen lends) (loop_in seen l) (Ok taken) → Behind (lent m l) (Asks (Lend frames)) (reply.No code.NoTaker) (reply_line (reply.No code.NoTaker))

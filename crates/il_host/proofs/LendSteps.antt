@@ -1,6 +1,6 @@
 -- A lend, from the ring on which the log was emptied: what its log is, what it left of the loop, and that this is a step of a run.
-use Rattle.std.proofs.Common.{◌≡◌, ◌≢◌, ◌≤◌, ⊎_elim, inl, inr, ◌+◌, ◌-◌, ◌++◌, ◌&&◌, ◌==◌, ◌∙◌, ℕ, suc, Bool, true, false, not, List, [], ◌∷◌, length, Option, Some, None, is_some, map, refl, sym, ap, subst, arith, append-nil, length-append}
-use Rattle.std.specs.Prelude.{IfSome, get_or, sum_by}
+use Rattle.std.proofs.Common.{◌≡◌, ◌≢◌, ◌≤◌, ⊎_elim, inl, inr, ◌+◌, ◌-◌, ◌++◌, ◌&&◌, ◌==◌, ◌∙◌, ℕ, suc, Bool, true, false, not, List, [], ◌∷◌, length, Option, Some, None, is_some, map, refl, sym, ap, ap₂, subst, arith, append-nil, length-append}
+use Rattle.std.specs.Prelude.{sum_by}
 use Rattle.std.specs.List.{All, list_all}
 use Rattle.std.proofs.lemmas.Bool.{and_parts, ne_eqb}
 use Rattle.il_frames.specs.declared.entry.Entry.{Entry}
@@ -19,14 +19,14 @@ use Rattle.loop_model.proofs.LeadingLaws.{controller_after-append, controller_af
 use Rattle.loop_model.proofs.ReachLaws.{met-split}
 use Rattle.il_ring.specs.Fates.{IsByPlan}
 use Rattle.il_guest.specs.State.{GuestState}
-use Rattle.il_ring.specs.Guests.{GuestMind, guest_mind, last_asked, mind_of}
+use Rattle.il_ring.specs.Guests.{GuestMind, guest_mind, last_asked}
 use Rattle.il_ring.specs.Lends.{is_lend, lend_entries, tells_own}
 use Rattle.il_ring.specs.Outcomes.{HearsNothing, met_between}
 use Rattle.il_ring.specs.Plans.{hops_of}
 use Rattle.il_ring.specs.Rings.{RingView, IsRing, devices_of, drive_party, roles_of}
-use Rattle.il_ring.specs.Statuses.{ToldStatus, answers_always, last_told, told_by}
+use Rattle.il_ring.specs.Statuses.{ToldStatus, answers_always, told_by}
 use Rattle.il_ring.proofs.Faults.{risen_by_later}
-use Rattle.il_ring.proofs.HostFronts.{is_from_host, last_told_behind_host, told_by_behind_host}
+use Rattle.il_ring.proofs.HostFronts.{is_from_host, told_by_behind_host}
 use Rattle.il_ring.proofs.LendLaws.{lend_returned}
 use Rattle.il_control.specs.Calls.{IsIdle}
 use Rattle.il_control.specs.Lent.{LendBroken, LendMade, Lends, asked_on, controller_at, last_at, last_of}
@@ -63,8 +63,7 @@ use Rattle.il_host.proofs.LoopReady.{ReadyBroke}
 use Rattle.il_host.proofs.LoopReplied.{LeavesOnTape, loop_fault_replied, loop_refusal_replied, loop_replied}
 use Rattle.il_host.proofs.LoopRuns.{still_tape}
 use Rattle.il_host.proofs.Sounding.{replied_sounding, travels_sounding}
-use Rattle.il_host.specs.Texts.{found_lines, statuses_lines}
-use Rattle.il_host.proofs.Statuses.{statuses_told}
+use Rattle.il_host.specs.Texts.{found_lines}
 use Rattle.il_host.proofs.StatusEvents.{ready_leaves}
 use Rattle.il_host.proofs.VolumeTravels.{WentBy, went_begun, went_by_plan, went_plan, went_room}
 
@@ -444,34 +443,18 @@ module _ {M : Type 0} (view : M → MediumView) (frames : ℕ) (was sound : Bool
           replied_sounding (event_on view (Asks (Lend frames)) (reply.No code.NoTaker) was true r s) sound false
           (loop_refusal_replied view (Asks (Lend frames)) tt was true r s leaves code.NoTaker (reply_is (last_asked r.guest) false (taker_is false stands)))
 
-  -- where one took control, what it has found is told by the log
-  mind_told : LendMade (length (devices_of m)) frames true m s → (mind : GuestMind) → s.guest ≡ Some mind → mind.last ≤ 30
-      → statuses_lines mind.found (addresses (Some (length (devices_of m))) mind.last) ≡ guest_lines (device_count (loop_on r)) s.books.log (addresses_asked (loop_on r))
-  mind_told made mind is low =
-      let lends = made.lends in
-      let went = went_ready view r empty was m ready idle in
-      let k = device_count (loop_on r) in
-      let entries = lend_entries (length (devices_of m)) (asked_on m) lends.lend in
-      let front = front_ready view r empty was m ready in
-      let hosts = ap (list_all is_from_host) front.reading.entries ∙ addressed_first_alone (loop_on r) was front.reading.pieces front.addressed in
-      let many : length (devices_of m) ≡ k = went.size ∙ sym (count_on r) in
-      let other : (0 == k) ≡ false = ne_eqb 0 k (λ none. omega (arith, none)) in
-      let logged : s.books.log ≡ front.front ++ entries = lends.log ∙ ap (λ log. log ++ entries) front.log in
-      let found : IfSome (Some mind) (λ mind. (a : ℕ) → a ≤ 30 → get_or mind.found a None ≡ last_told (length (devices_of s)) a entries) =
-      subst (λ guest. IfSome guest (λ mind. (a : ℕ) → a ≤ 30 → get_or mind.found a None ≡ last_told (length (devices_of s)) a entries)) is (lends.found made.taken_is) in
-      let told : (a : ℕ) → a ≤ 30 → get_or mind.found a None ≡ last_told k a s.books.log =
-      λ a few. found a few ∙ ap (λ k. last_told k a entries) (lends.size ∙ many) ∙ sym (last_told_behind_host k a front.front entries hosts other) ∙ ap (last_told k a) (sym logged) in
-      let last : mind.last ≡ last_address (last_asked r.guest) = ap (λ guest. last_address (last_asked guest)) (sym is) ∙ ap last_address (lends.kept.last ∙ went.guest) in
-      ap (λ k. statuses_lines mind.found (addresses (Some k) mind.last)) many
-      ∙ statuses_told k mind.last s.books.log mind.found told low
-      ∙ ap (λ last. guest_lines k s.books.log (addresses (Some k) last)) last
+  -- what the log tells is told of the addresses that are asked
+  pub found_told : LendMade (length (devices_of m)) frames true m s → (guest : Option GuestState) → guest_mind guest ≡ s.guest
+      → found_lines (length (devices_of m)) guest s.books.log ≡ guest_lines (device_count (loop_on r)) s.books.log (addresses_asked (loop_on r))
+  found_told made guest is = by guest (ap (λ guest. last_asked guest) is ∙ made.lends.kept.last ∙ (went_ready view r empty was m ready idle).guest)
+    where
+      many : length (devices_of m) ≡ device_count (loop_on r)
+      many = (went_ready view r empty was m ready idle).size ∙ sym (count_on r)
 
-  pub found_told : LendMade (length (devices_of m)) frames true m s → (guest : Option GuestState) → guest_mind guest ≡ s.guest → IfSome guest (λ g. g.last ≤ 30)
-      → found_lines (length (devices_of m)) guest ≡ guest_lines (device_count (loop_on r)) s.books.log (addresses_asked (loop_on r))
-  found_told made (Some g) is low = mind_told made (mind_of g) (sym is) low
-  found_told made None is low =
-      let none : last_asked r.guest ≡ None = sym (made.lends.kept.last ∙ (went_ready view r empty was m ready idle).guest) ∙ ap (λ guest. last_asked guest) (sym is) in
-      sym (ap (λ last. guest_lines (device_count (loop_on r)) s.books.log (addresses (Some (device_count (loop_on r))) (last_address last))) none)
+      by : (guest : Option GuestState) → last_asked (guest_mind guest) ≡ last_asked r.guest
+          → found_lines (length (devices_of m)) guest s.books.log ≡ guest_lines (device_count (loop_on r)) s.books.log (addresses_asked (loop_on r))
+      by (Some g) last = ap₂ (λ k last. guest_lines k s.books.log (addresses (Some k) last)) many (ap last_address last)
+      by None last = ap (λ last. guest_lines (device_count (loop_on r)) s.books.log (addresses (Some (device_count (loop_on r))) (last_address last))) last
 
   -- it was broken off
   pub broken_step : LendBroken (length (devices_of m)) frames m s → Shortens view r s → LendRan view frames reply.FaultFrame was false sound r s

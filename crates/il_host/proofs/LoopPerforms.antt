@@ -1,6 +1,6 @@
 -- The commands that ask the devices of the loop, from the moment at which their log is emptied to their reply, are steps of a run.
 use Rattle.std.proofs.Common.{◌≡◌, ◌∙◌, ◌≤◌, ◌&&◌, ⊎_elim, inr, ℕ, Bool, is_some, true, false, suc, List, length, Option, Some, None, option_map, refl, sym, ap, subst, not}
-use Rattle.std.specs.Prelude.{IfSome, Ok, Err}
+use Rattle.std.specs.Prelude.{Ok, Err}
 use Rattle.std.specs.List.{position}
 use Rattle.il_frames.specs.declared.entry.Entry.{Entry}
 use Rattle.il_frames.specs.declared.frame.Frame.{Frame}
@@ -353,11 +353,11 @@ module _ {M S : Type 0} (view : M → MediumView) (seen : S → RingView M) (o a
       )
 
       -- what the second controller has found
-      pub lend_lines : (address frames : ℕ) → LendsBy address → Called (LendMade address frames true) true false since.Mended mid new → (guest : Option GuestState) → guest_mind guest ≡ new.ring.guest → IfSome guest (λ g. g.last ≤ 30)
-          → found_lines address guest
+      pub lend_lines : (address frames : ℕ) → LendsBy address → Called (LendMade address frames true) true false since.Mended mid new → (guest : Option GuestState) → guest_mind guest ≡ new.ring.guest
+          → found_lines address guest new.ring.books.log
           ≡ guest_lines (device_count (state_at view old).loop) (new.ring.books.log) (addresses_asked (state_at view old).loop)
-      lend_lines address frames there did guest same low =
-          ap (λ a. found_lines a guest) there.0
+      lend_lines address frames there did guest same =
+          ap (λ a. found_lines a guest new.ring.books.log) there.0
           ∙ found_told view frames begun.ready begun.sound begun.ring mid.ring new.ring emptied.log emptied.begins ring_here ready idle_mid there.1
-          (subst (λ a. LendMade a frames true mid.ring new.ring) there.0 did.did) guest same low
+          (subst (λ a. LendMade a frames true mid.ring new.ring) there.0 did.did) guest same
           ∙ ap (λ (z : LoopState). guest_lines (device_count z) new.ring.books.log (addresses_asked z)) loop_is

@@ -1,31 +1,12 @@
--- The lines of the statuses that a second controller found are those that a log tells of.
-use Rattle.std.proofs.Common.{◌≡◌, ◌≤◌, ◌+◌, ◌==◌, ◌∙◌, ◌++◌, ℕ, zero, suc, Bool, true, false, List, [], ◌∷◌, Option, Some, None, if◌then◌else◌, get_or, refl, sym, ap, ap₂, append_assoc, append-nil, flat_map, arith}
+-- The lines of the statuses that a log tells, one address after the other.
+use Rattle.std.proofs.Common.{◌≡◌, ◌+◌, ◌==◌, ◌∙◌, ◌++◌, ℕ, zero, suc, Bool, true, false, List, [], ◌∷◌, Option, Some, if◌then◌else◌, refl, sym, ap, append_assoc, append-nil, flat_map, arith}
 use Rattle.std.proofs.lemmas.Bool.{eq-eqb, ne_eqb}
 use Rattle.std.proofs.lemmas.Grind.{flat_map-append}
 use Rattle.il_frames.specs.declared.entry.Entry.{Entry}
 use Rattle.il_device.specs.Roles.{is_own}
-use Rattle.il_guest.specs.Rounds.{addresses, addresses_from}
+use Rattle.il_guest.specs.Rounds.{addresses_from}
 use Rattle.il_ring.specs.Statuses.{last_told}
 use Rattle.host_model.specs.Replies.{guest_line, guest_lines}
-use Rattle.il_host.specs.Texts.{statuses_lines}
-
--- ---- what was found is what was told
-
-module _ (k : ℕ) (own : Option ℕ) (log : List Entry) (found : List (Option ℕ)) (told : (a : ℕ) → a ≤ 30 → get_or found a None ≡ last_told k a log) where
-  from : (a n : ℕ) → a + n ≤ 31 → statuses_lines found (addresses_from own a n) ≡ guest_lines k log (addresses_from own a n)
-  from a zero most = refl
-  from a (suc n) most = by (is_own own a) (told a (omega arith)) (from (suc a) n (omega arith))
-    where
-      by : (own_one : Bool) → get_or found a None ≡ last_told k a log → statuses_lines found (addresses_from own (suc a) n) ≡ guest_lines k log (addresses_from own (suc a) n)
-          → statuses_lines found (if own_one then addresses_from own (suc a) n else a ∷ addresses_from own (suc a) n)
-          ≡ guest_lines k log (if own_one then addresses_from own (suc a) n else a ∷ addresses_from own (suc a) n)
-      by true here rest = rest
-      by false here rest = ap₂ (λ status more. guest_line a status ++ more) here rest
-
--- where the statuses that are kept are those that the log tells to party k, so are the lines
-pub statuses_told : (k last : ℕ) (log : List Entry) (found : List (Option ℕ)) → ((a : ℕ) → a ≤ 30 → get_or found a None ≡ last_told k a log) → last ≤ 30
-    → statuses_lines found (addresses (Some k) last) ≡ guest_lines k log (addresses (Some k) last)
-statuses_told k last log found told most = from k (Some k) log found told 1 last (omega arith)
 
 -- ---- one line after the other
 
@@ -44,18 +25,18 @@ addresses_more own a (suc n) =
     by true all front last rest = rest
     by false all front last rest = ap (λ more. a ∷ more) rest
 
-module _ (own : ℕ) (found : List (Option ℕ)) where
+module _ (own : ℕ) (log : List Entry) where
   -- the lines of the addresses up to the n-th
   abbrev pub lines_to : ℕ → List ℕ
-  lines_to n = statuses_lines found (addresses_from (Some own) 1 n)
+  lines_to n = guest_lines own log (addresses_from (Some own) 1 n)
 
   abbrev line_of : ℕ → List ℕ
-  line_of a = guest_line a (get_or found a None)
+  line_of a = guest_line a (last_told own a log)
 
   lines_more : (n : ℕ) → lines_to (suc n) ≡ lines_to n ++ (if own == suc n then [] else line_of (suc n))
   lines_more n =
       let next : 1 + n ≡ suc n = omega arith in
-      ap (statuses_lines found) (addresses_more (Some own) 1 n ∙ ap (λ (b : ℕ). addresses_from (Some own) 1 n ++ (if own == b then [] else b ∷ [])) next)
+      ap (guest_lines own log) (addresses_more (Some own) 1 n ∙ ap (λ (b : ℕ). addresses_from (Some own) 1 n ++ (if own == b then [] else b ∷ [])) next)
       ∙ flat_map-append line_of (addresses_from (Some own) 1 n) (if own == suc n then [] else suc n ∷ [])
       ∙ ap (λ more. lines_to n ++ more) (by (own == suc n))
     where

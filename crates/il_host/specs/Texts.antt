@@ -1,5 +1,5 @@
 -- The lines of replies, by what the calls of a volume and of the loop answer.
-use Rattle.std.specs.Prelude.{ℕ, List, [], ◌++◌, Option, Some, None, length, map, codes, decimal, get_or}
+use Rattle.std.specs.Prelude.{ℕ, List, [], ◌++◌, Option, Some, None, length, map, codes, decimal}
 use Rattle.std.specs.Int.{w16, to_be_bytes}
 use Rattle.std.specs.List.{flat_map}
 use Rattle.hex.specs.Hex.{encode_upper}
@@ -13,7 +13,8 @@ use Rattle.il_script.specs.Replies.{text_line, next}
 use Rattle.il_guest.specs.Rounds.{addresses}
 use Rattle.il_guest.specs.State.{GuestState}
 use Rattle.host_model.specs.Listing.{type_text, volume_line, slot_lines}
-use Rattle.host_model.specs.Replies.{bytes_text, guest_line, id_text}
+use Rattle.il_frames.specs.declared.entry.Entry.{Entry}
+use Rattle.host_model.specs.Replies.{bytes_text, guest_lines, id_text}
 
 -- what record 0 says
 abbrev pub parts_of : Listing → HeaderParts
@@ -40,11 +41,7 @@ data_text kind implementation bytes = text_line (codes "data" ++ next (type_text
 abbrev pub device_line : ℕ → Option ℕ → List ℕ
 device_line address id = text_line (codes "device" ++ next (decimal address) ++ next (id_text id))
 
--- of each of these addresses the line of its status in this list
-abbrev pub statuses_lines : List (Option ℕ) → List ℕ → List ℕ
-statuses_lines found addresses = flat_map (λ a. guest_line a (get_or found a None)) addresses
-
--- what a second controller of address `own` has found, if there is one
-abbrev pub found_lines : ℕ → Option GuestState → List ℕ
-found_lines own None = []
-found_lines own (Some g) = statuses_lines g.found (addresses (Some own) g.last)
+-- what the log tells of the addresses that a second controller of address `own` asks, if there is one
+abbrev pub found_lines : ℕ → Option GuestState → List Entry → List ℕ
+found_lines own None log = []
+found_lines own (Some g) log = guest_lines own log (addresses (Some own) g.last)

@@ -9,6 +9,7 @@ mod file_buffer;
 mod gathering;
 mod generating;
 mod host;
+mod lent_log;
 mod listing;
 mod loop_commands;
 mod loop_texts;

@@ -132,7 +132,8 @@ impl<M: Medium + Drop> Host<M> {
         let last = self.volume.records().ring().devices();
         match self.volume.records_mut().lend(last, frames) {
             Ok(true) => {
-                put_found(&mut self.page, last, self.volume.records().ring().guest());
+                let ring = self.volume.records().ring();
+                put_found(&mut self.page, last, ring.guest(), ring.log());
                 self.answered(Reply::Ok)
             }
             Ok(false) => self.answered(Reply::No(Code::NoTaker)),

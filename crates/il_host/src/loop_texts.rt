@@ -2,12 +2,13 @@
 ghost use Rattle.std.specs.Prelude.{◌≡◌, ◌+◌, ◌*◌, ◌≤◌, ◌++◌, length, Some, IfSome, option_map};
 ghost use Rattle.il_script.specs.Replies.{next};
 ghost use Rattle.il_guest.specs.Rounds.{addresses};
-ghost use Rattle.host_model.specs.Replies.{id_text, device_lines, guest_line, status_line, poll_line, paper_line};
-ghost use Rattle.il_host.specs.Texts.{device_line, found_lines, statuses_lines};
+ghost use Rattle.host_model.specs.Replies.{id_text, device_lines, guest_line, guest_lines, status_line, poll_line, paper_line};
+ghost use Rattle.il_host.specs.Texts.{device_line, found_lines};
 
+use crate::lent_log::last_status;
 use crate::parts::{put_next_byte, put_next_bytes, put_next_count, put_next_number};
 use arrayvec::ArrayVec;
-use il_frames::Frame;
+use il_frames::{Entry, Frame};
 use il_guest::Guest;
 use il_script::Page;
 
@@ -58,33 +59,33 @@ fn put_guest(page: &mut Page, address: u32, status: Option<u8>)
     page.put(b"\n");
 }
 
-/// The lines of the addresses up to the last one but the own one, each with its status in `found`.
-fn put_statuses(page: &mut Page, own: u8, last: u8, found: &[Option<u8>; 31])
+/// The lines of the addresses up to the last one but the own one, each with the last status that the log tells of it.
+fn put_statuses(page: &mut Page, own: u8, last: u8, log: &[Entry])
     requires own { 1 ≤ own }
     requires own_address { own ≤ 30 }
     requires last { last ≤ 30 }
     requires room { length page.old.text + 600 ≤ page.old.room }
-    ensures text { let lines = statuses_lines found.now (addresses (Some own) last) in
+    ensures text { let lines = guest_lines own log.now (addresses (Some own) last) in
         page.new ≡ record page.old { text = page.old.text ++ lines } }
     ensures size { length page.new.text ≤ length page.old.text + 600 }
 {
     for address in 1..last + 1 {
         if address != own {
-            put_guest(page, address as u32, found[address as usize]);
+            put_guest(page, address as u32, last_status(log, own, address));
         }
     }
 }
 
-/// The lines of what a second controller has found that has this address, if there is one.
-pub(crate) fn put_found(page: &mut Page, own: u8, guest: Option<&Guest>)
+/// The lines of the statuses that the log tells a second controller of this address, if there is one.
+pub(crate) fn put_found(page: &mut Page, own: u8, guest: Option<&Guest>, log: &[Entry])
     requires own { (1 ≤ own) × (own ≤ 30) }
     requires room { length page.old.text + 600 ≤ page.old.room }
-    ensures text { page.new ≡ record page.old { text = page.old.text ++ found_lines own (option_map (λ g. g.now) guest.entry) } }
+    ensures text { page.new ≡ record page.old { text = page.old.text ++ found_lines own (option_map (λ g. g.now) guest.entry) log.now } }
     ensures size { length page.new.text ≤ length page.old.text + 600 }
     ensures range { IfSome (option_map (λ g. g.now) guest.entry) (λ g. g.last ≤ 30) }
 {
     if let Some(guest) = guest {
-        put_statuses(page, own, guest.last(), guest.found());
+        put_statuses(page, own, guest.last(), log);
     }
 }
 

@@ -21,7 +21,7 @@ use Rattle.il_drive.proofs.Exchanges.{parts, goes_by, all_pass}
 use Rattle.il_drive.proofs.ExchangesReading.{EchoesOf}
 use Rattle.il_drive.proofs.Reading.{IsEcho}
 use Rattle.il_frames.specs.NamedFrames.{entry, unl, rfc, nrd, tad, ddt}
-use Rattle.loop_model.specs.Exchanges.{Echo, Start, Sda, Sst, Sdi, Sai, NotTaken, ToItsEnd, Stopped, start_frame, echoed, returned, answer_entries, is_echo, receive_front}
+use Rattle.loop_model.specs.Exchanges.{Echo, Start, Sda, NotTaken, ToItsEnd, Stopped, start_frame, echoed, returned, answer_entries, is_echo, receive_front}
 use Rattle.il_control.specs.Brought.{ComesAs, Brought, BroughtIf, AllCome}
 use Rattle.il_control.specs.Receives.{own_frames, frames_of}
 use Rattle.il_control.proofs.Brings.{command_comes}

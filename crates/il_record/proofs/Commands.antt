@@ -13,8 +13,7 @@ use Rattle.il_ports.specs.Media.{MediumView}
 use Rattle.il_drive.specs.declared.mode.Start.TheVariants as start
 use Rattle.il_drive.specs.Runs.{Ran}
 use Rattle.il_frames.specs.NamedFrames.{rfc, unl}
-use Rattle.loop_model.specs.Exchanges.{Command, Identify, commanded, entries_of, returned, is_talk_address}
-use Rattle.loop_model.specs.Roles.{is_aau}
+use Rattle.loop_model.specs.Exchanges.{Command, Identify, commanded, entries_of, returned}
 use Rattle.loop_model.specs.Devices.{EachBecomes}
 use Rattle.loop_model.specs.Polls.{poll_enable, poll_place}
 use Rattle.loop_model.proofs.DeviceLaws.{each_then, each_weaker}
@@ -25,7 +24,7 @@ use Rattle.il_ring.specs.Outcomes.{HearsNothing, Obeys}
 use Rattle.il_ring.specs.Polls.{is_poll}
 use Rattle.il_ring.specs.Rings.{RingView, devices_of, drive_party, spare_of}
 use Rattle.il_control.specs.Brought.{is_auto_address}
-use Rattle.il_control.specs.Calls.{AllStay, BrokenOff, Made, Obeyed, ObeyedInPart, Stays, is_command}
+use Rattle.il_control.specs.Calls.{AllStay, BrokenOff, Made, Obeyed, ObeyedInPart, Stays}
 use Rattle.il_control.proofs.Assigning.{MayHavePlace, message_of-ppe}
 use Rattle.il_control.proofs.Calls.{hears_then, room_behind}
 use Rattle.il_record.specs.Polls.{PollsOn, Released}
@@ -34,9 +33,6 @@ use Rattle.il_record.proofs.MildCame.{UnlFirst, brought_mild, cut_mild, mild_ent
 use Rattle.il_control.proofs.Brings.{command_brings}
 
 -- ---- which commands they are
-
-pub ppe_command : (n : ℕ) → n < 16 → is_command (poll_enable n) ≡ true
-ppe_command n small = ap (λ m. not (is_talk_address m) && not (is_aau m)) (message_of-ppe n small)
 
 pub ppe_mild : (n : ℕ) → n < 16 → mild_frame (poll_enable n) ≡ true
 ppe_mild n small = ap (λ m. is_exact m && (not (is_auto_address m) && is_mild m)) (message_of-ppe n small)

@@ -19,7 +19,7 @@ use Rattle.il_drive.proofs.Reading.{nothing_read}
 use Rattle.il_drive.proofs.ExchangesAddressed.{message_of-tad}
 use Rattle.il_drive.proofs.ExchangesStill.{makes_listener, NoneListens, listens-data, receive_leaves}
 use Rattle.il_frames.specs.NamedFrames.{entry, unl, unt, rfc, nrd, tad, ddt}
-use Rattle.loop_model.specs.Exchanges.{Echo, Answer, NotTaken, ToItsEnd, Stopped, Start, Sda, Sst, Sdi, Sai, Receive, start_frame, echoed, returned, commanded, numbered, answer_entries, entries_of, is_answer, is_echo, is_some_data}
+use Rattle.loop_model.specs.Exchanges.{Echo, Answer, NotTaken, ToItsEnd, Stopped, Start, Sda, Receive, start_frame, echoed, returned, commanded, numbered, answer_entries, entries_of, is_answer, is_echo, is_some_data}
 use Rattle.loop_model.specs.Reach.{brings_to}
 use Rattle.loop_model.proofs.UnitLaws.{entries_of-receive}
 use Rattle.il_ring.specs.Journeys.{is_exact}

@@ -17,7 +17,7 @@ use Rattle.il_device.specs.declared.roles.Roles.{Roles}
 use Rattle.il_device.specs.Roles.{no_roles, is_own, takes_address}
 use Rattle.il_device.specs.Takes.{eto, ete}
 use Rattle.il_frames.specs.NamedFrames.{entry, unl, unt, tad, ddt, rfc, nrd}
-use Rattle.loop_model.specs.Exchanges.{Echo, Answer, NotTaken, ToItsEnd, Stopped, Start, Sda, Sst, Sdi, Sai, Receive, Break, FrameLost, HostAltered, TalkerAltered, start_frame, returned, commanded, echoed, numbered, answer_entries, entries_of, break_entries, cut_at, can_cut, is_break, is_altered, is_echo, is_number, is_address, is_answer}
+use Rattle.loop_model.specs.Exchanges.{Echo, Answer, NotTaken, ToItsEnd, Stopped, Start, Sda, Receive, Break, FrameLost, HostAltered, TalkerAltered, start_frame, returned, commanded, echoed, numbered, answer_entries, entries_of, break_entries, cut_at, can_cut, is_break, is_altered, is_echo, is_number, is_address, is_answer}
 use Rattle.loop_model.specs.Hearing.{roles_at, brings_byte, heard_of, heard_by}
 use Rattle.loop_model.specs.Reach.{is_reached, brings_to}
 use Rattle.loop_model.specs.Roles.{roles_by, passed_on, roles_along, roles_after_entry}

@@ -4,7 +4,6 @@
 
 mod calls;
 mod exchanges;
-mod frames;
 mod loop_calls;
 mod poll;
 mod records;

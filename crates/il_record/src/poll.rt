@@ -7,11 +7,9 @@ ghost use Rattle.il_ring.specs.Polls.{identified_along};
 ghost use Rattle.il_control.specs.Calls.{IsIdle, idy};
 ghost use Rattle.il_record.specs.Polls.{Assigned, Collected, HasPolled, MayPoll, PollBroke, collect_asks, place_asks, poll_asks};
 
-use crate::frames::{poll_enable, poll_unconfigure};
-use crate::runs::{listen_address, unlisten};
 use il_control::Broken;
 use il_control::exchanges::{command, identify};
-use il_frames::Frame;
+use il_frames::{Frame, Message};
 use il_ports::Medium;
 use il_ring::{Ring, Seen};
 
@@ -24,9 +22,9 @@ fn assign<M: Medium>(ring: &mut Ring<M>, address: u8) -> Result<(), Broken>
     ensures assigned { IfOk result (λ done. Assigned M.view address (⟦<Ring<M> as Seen<M>>⟧.seen ring.old) (⟦<Ring<M> as Seen<M>>⟧.seen ring.new)) }
     ensures broken { IfErr result (λ broken. PollBroke M.view 7 (place_asks address) (⟦<Ring<M> as Seen<M>>⟧.seen ring.old) (⟦<Ring<M> as Seen<M>>⟧.seen ring.new)) }
 {
-    command(ring, unlisten())?;
-    command(ring, listen_address(address))?;
-    command(ring, poll_enable(7 + address))
+    command(ring, Frame::of(Message::Unl))?;
+    command(ring, Frame::of(Message::Lad(address)))?;
+    command(ring, Frame::of(Message::Ppe(7 + address)))
 }
 
 /// Polls the devices that have places, and takes all places away.
@@ -37,9 +35,9 @@ fn collect<M: Medium>(ring: &mut Ring<M>) -> Result<Frame, Broken>
     ensures collected { IfOk result (λ frame. Collected M.view frame (⟦<Ring<M> as Seen<M>>⟧.seen ring.old) (⟦<Ring<M> as Seen<M>>⟧.seen ring.new)) }
     ensures broken { IfErr result (λ broken. PollBroke M.view 6 (collect_asks (identified_along (devices_of (⟦<Ring<M> as Seen<M>>⟧.seen ring.old)) idy)) (⟦<Ring<M> as Seen<M>>⟧.seen ring.old) (⟦<Ring<M> as Seen<M>>⟧.seen ring.new)) }
 {
-    command(ring, unlisten())?;
+    command(ring, Frame::of(Message::Unl))?;
     let frame = identify(ring)?;
-    command(ring, poll_unconfigure())?;
+    command(ring, Frame::of(Message::Ppu))?;
     Ok(frame)
 }
 

@@ -1,45 +1,19 @@
 // Runs of records over the loop: a seek, a transfer and a status poll, directly after each other.
-ghost use Rattle.std.specs.Prelude.{◌≡◌, ◌≤◌, ◌+◌, ◌*◌, ◌/◌, ◌==◌, ◌&&◌, true, length, IfOk, IfErr};
-ghost use Rattle.il_drive.specs.Resting.{IsFree, sdc};
+ghost use Rattle.std.specs.Prelude.{◌≡◌, ◌≤◌, ◌+◌, ◌*◌, ◌/◌, ◌==◌, ◌&&◌, length, IfOk, IfErr};
+ghost use Rattle.il_drive.specs.Resting.{IsFree};
 ghost use Rattle.lif_model.specs.Shelf.{cut};
 ghost use Rattle.il_ports.specs.Stores.{AreRecords};
 ghost use Rattle.il_ring.specs.Rings.{spare_of, drive_party};
-ghost use Rattle.il_control.specs.Calls.{IsIdle, is_command};
-ghost use Rattle.il_frames.specs.NamedFrames.{unl, lad};
+ghost use Rattle.il_control.specs.Calls.{IsIdle};
 ghost use Rattle.il_record.specs.Polls.{PlacesKept};
 ghost use Rattle.il_record.specs.Runs.{Cleared, Interrupted, clear_asks, Polled, NotPolled, ReadAs, ReadBroke, WroteAs, WriteBroke};
 
 use crate::exchanges::{seek, send};
 use il_control::exchanges::{command, receive};
 use il_control::{Broken, Sot};
-use il_frames::{Class, Frame};
+use il_frames::{Frame, Message};
 use il_ports::Medium;
 use il_ring::{Ring, Seen};
-
-/// Unlisten (HP-IL Interface Specification, HP 82166-90017, the table of commands).
-pub(crate) fn unlisten() -> Frame
-    ensures frame { result ≡ unl }
-    ensures command { is_command result ≡ true }
-{
-    Frame::new(Class::Cmd, 0x3F)
-}
-
-/// Listen address `address`, 0 to 30.
-pub(crate) fn listen_address(address: u8) -> Frame
-    requires { address ≤ 30 }
-    ensures frame { result ≡ lad address }
-    ensures command { is_command result ≡ true }
-{
-    Frame::new(Class::Cmd, 0x20 + address)
-}
-
-/// Selected device clear.
-fn selected_device_clear() -> Frame
-    ensures frame { result ≡ sdc }
-    ensures command { is_command result ≡ true }
-{
-    Frame::new(Class::Cmd, 0x04)
-}
 
 /// Has the drive rest with status 0.
 pub(crate) fn clear<M: Medium>(ring: &mut Ring<M>) -> Result<(), Broken>
@@ -50,9 +24,9 @@ pub(crate) fn clear<M: Medium>(ring: &mut Ring<M>) -> Result<(), Broken>
     ensures used { spare_of (⟦<Ring<M> as Seen<M>>⟧.seen ring.old) ≤ spare_of (⟦<Ring<M> as Seen<M>>⟧.seen ring.new) + 7 }
 {
     let drive = ring.party();
-    command(ring, unlisten())?;
-    command(ring, listen_address(drive))?;
-    command(ring, selected_device_clear())
+    command(ring, Frame::of(Message::Unl))?;
+    command(ring, Frame::of(Message::Lad(drive)))?;
+    command(ring, Frame::of(Message::Sdc))
 }
 
 /// Asks the drive for its status, and answers the status byte.

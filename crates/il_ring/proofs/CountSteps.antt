@@ -28,10 +28,18 @@ use Rattle.il_ring.proofs.Counts.{Counted, counted_append}
 
 -- ---- which frames can go on
 
--- no frame is on its way, or its source lies behind, or it is awaited
-abbrev pub Stands : ℕ → Option Flight → List DeviceState → Type 0
-Stands j None ds = Unit {0}
-Stands j (Some f) ds = (f.source ≤ j) ⊎ IsAwaited j f ds
+-- its source lies behind all of these devices
+abbrev pub IsBeyond : ℕ → ℕ → Flight → List DeviceState → Type 0
+IsBeyond k j f ds = (j + length ds < f.source) × (f.source ≤ k)
+
+-- its source lies behind, or it is awaited, or its source lies beyond
+abbrev pub ComesFrom : ℕ → ℕ → Flight → List DeviceState → Type 0
+ComesFrom k j f ds = (f.source ≤ j) ⊎ (IsAwaited j f ds ⊎ IsBeyond k j f ds)
+
+-- no frame is on its way, or one that can go on
+abbrev pub Stands : ℕ → ℕ → Option Flight → List DeviceState → Type 0
+Stands k j None ds = Unit {0}
+Stands k j (Some f) ds = ComesFrom k j f ds
 
 -- ---- what a link leaves of a frame
 
@@ -54,14 +62,14 @@ hit_same (Some (Alter change)) f g is = altered_same _ change f g is
 
 -- ---- the entry of a frame that ended
 
-ended_links : (k source party : ℕ) (f : Frame) → crossed k source (if source == party then outcome.Back f else outcome.Taken party) ≡ distance k source party
+pub ended_links : (k source party : ℕ) (f : Frame) → crossed k source (if source == party then outcome.Back f else outcome.Taken party) ≡ distance k source party
 ended_links k source party f = by_test (source == party) refl
   where
     by_test : (test : Bool) → (source == party) ≡ test → crossed k source (if test then outcome.Back f else outcome.Taken party) ≡ distance k source party
     by_test true e = let same = eqb-true source party e in sym (distance-self k source) ∙ ap (distance k source) same
     by_test false e = refl
 
-ended_brings : (k q source j : ℕ) (f : Frame) → 1 ≤ q → q ≤ k → (q ≡ j + 1 → ⊥) → j < k → source ≤ k
+pub ended_brings : (k q source j : ℕ) (f : Frame) → 1 ≤ q → q ≤ k → (q ≡ j + 1 → ⊥) → j < k → source ≤ k
     → cond (came_to k q source (if source == j + 1 then outcome.Back f else outcome.Taken (j + 1))) 1 0 ≡ come_to k q source j
 ended_brings k q source j f some within other on there = by_test (source == j + 1) refl
   where
@@ -69,7 +77,7 @@ ended_brings k q source j f some within other on there = by_test (source == j + 
     by_test true e = let same = eqb-true source (j + 1) e in sym (back-other k q j some within other on) ∙ ap (λ s. come_to k q s j) (sym same)
     by_test false e = ended-other k q source j some within other on there
 
-ended_here : (k source j : ℕ) (f : Frame) → ◌≡◌ {A = ℕ} (cond (came_to k (j + 1) source (if source == j + 1 then outcome.Back f else outcome.Taken (j + 1))) 1 0) 1
+pub ended_here : (k source j : ℕ) (f : Frame) → ◌≡◌ {A = ℕ} (cond (came_to k (j + 1) source (if source == j + 1 then outcome.Back f else outcome.Taken (j + 1))) 1 0) 1
 ended_here k source j f = by_test (source == j + 1)
   where
     by_test : (test : Bool) → ◌≡◌ {A = ℕ} (cond (came_to k (j + 1) source (if test then outcome.Back f else outcome.Taken (j + 1))) 1 0) 1
@@ -163,18 +171,20 @@ sourced_one k j n log f g h d e on there at same took =
 
 -- behind a party of such a kind the frame can go on, and the counts are so
 abbrev pub Goes : ℕ → ℕ → Trip → DeviceState → List DeviceState → Trip → DeviceState → Type 0
-Goes k j t d ds u e = Counted k j t (d ∷ []) u (e ∷ []) × Stands (j + 1) u.flight ds
+Goes k j t d ds u e = Counted k j t (d ∷ []) u (e ∷ []) × Stands k (j + 1) u.flight ds
 
-source_within : (j k : ℕ) (f : Flight) (ds : List DeviceState) → j + length ds ≡ k → (f.source ≤ j) ⊎ IsAwaited j f ds → f.source ≤ k
+pub source_within : (j k : ℕ) (f : Flight) (ds : List DeviceState) → j + length ds ≤ k → ComesFrom k j f ds → f.source ≤ k
 source_within j k f ds all (inl low) = omega (arith, low, all)
-source_within j k f ds all (inr awaited) = omega (arith, awaited.there, awaited.within, all)
+source_within j k f ds all (inr (inl awaited)) = omega (arith, awaited.there, awaited.within, all)
+source_within j k f ds all (inr (inr beyond)) = beyond.1
 
-source_where : (j : ℕ) (f : Flight) (ds : List DeviceState) → (f.source ≤ j) ⊎ IsAwaited j f ds → (f.source ≤ j) ⊎ (j < f.source)
-source_where j f ds (inl low) = inl low
-source_where j f ds (inr awaited) = inr (omega (arith, awaited.there))
+source_where : (j k : ℕ) (f : Flight) (ds : List DeviceState) → ComesFrom k j f ds → (f.source ≤ j) ⊎ (j < f.source)
+source_where j k f ds (inl low) = inl low
+source_where j k f ds (inr (inl awaited)) = inr (omega (arith, awaited.there))
+source_where j k f ds (inr (inr beyond)) = let far = beyond.0 in inr (omega (arith, far))
 
 -- a frame that a party passes on was not sent by it, and can go on
-further : (j k : ℕ) (f g : Flight) (h : Frame) (out : Out) (d e : DeviceState) (ds : List DeviceState) → j + length (d ∷ ds) ≡ k → IsSame f g → Takes d g.now out e → out ≡ Pass h
+further : (j k : ℕ) (f g : Flight) (h : Frame) (out : Out) (d e : DeviceState) (ds : List DeviceState) → j + length (d ∷ ds) ≤ k → IsSame f g → Takes d g.now out e → out ≡ Pass h
     → (place : ℕ) → f.source ≡ j + 1 + place → place < length (d ∷ ds) → is_data f.now ≡ true → (own : OwnFrame) → own_at place (d ∷ ds) ≡ Some own
     → ((j + 1 < f.source) × (f.source ≤ k)) × IsAwaited (j + 1) (record g { now = h }) ds
 further j k f g h out d e ds all same takes is zero there within data_frame own waits = absurd (own_sends d e g.now h out own (same.data_frame ∙ data_frame) waits takes is)
@@ -190,27 +200,31 @@ further j k f g h out d e ds all same takes is (suc place) there within data_fra
   },
 )
 
-answered_one : (plan : List Planned) (k j n : ℕ) (log : List Entry) (f g : Flight) (out : Out) (d e : DeviceState) (ds : List DeviceState) → j + length (d ∷ ds) ≡ k → (f.source ≤ j) ⊎ IsAwaited j f (d ∷ ds) → IsSame f g
+answered_one : (plan : List Planned) (k j n : ℕ) (log : List Entry) (f g : Flight) (out : Out) (d e : DeviceState) (ds : List DeviceState) → j + length (d ∷ ds) ≤ k → ComesFrom k j f (d ∷ ds) → IsSame f g
     → Takes d g.now out e → Goes k j (trip n log (Some f)) d ds (answered (risen n) log (j + 1) g out) e
 answered_one plan k j n log f g (Pass h) d e ds all (inl low) same takes =
     (passed_one k j n log f (record g { now = h }) d e (omega (arith, all)) (inl low) same.source takes.frames, inl (omega (arith, low, same.source)))
-answered_one plan k j n log f g (Pass h) d e ds all (inr awaited) same takes =
+answered_one plan k j n log f g (Pass h) d e ds all (inr (inl awaited)) same takes =
     let on = further j k f g h (Pass h) d e ds all same takes refl awaited.place awaited.there awaited.within awaited.data_frame awaited.own awaited.waits in
-    (passed_one k j n log f (record g { now = h }) d e (omega (arith, all)) (inr on.0) same.source takes.frames, inr on.1)
+    (passed_one k j n log f (record g { now = h }) d e (omega (arith, all)) (inr on.0) same.source takes.frames, inr (inl on.1))
+answered_one plan k j n log f g (Pass h) d e ds all (inr (inr beyond)) same takes =
+    let far = beyond.0 in
+    let most = beyond.1 in
+    (passed_one k j n log f (record g { now = h }) d e (omega (arith, all)) (inr (omega (arith, far), most)) same.source takes.frames, inr (inr (omega (arith, far, same.source), omega (arith, most, same.source))))
 answered_one plan k j n log f g (Source h) d e ds all at same takes =
-    (sourced_one k j n log f g h d e (omega (arith, all)) (source_within j k f (d ∷ ds) all at) (source_where j f (d ∷ ds) at) same.source takes.frames, inl (omega arith))
+    (sourced_one k j n log f g h d e (omega (arith, all)) (source_within j k f (d ∷ ds) all at) (source_where j k f (d ∷ ds) at) same.source takes.frames, inl (omega arith))
 
-met_one : (plan : List Planned) (k j n : ℕ) (log : List Entry) (f : Flight) (o : Option Flight) (d e : DeviceState) (ds : List DeviceState) (u : Trip) → hit (next_fault plan n) f ≡ o → j + length (d ∷ ds) ≡ k
-    → (f.source ≤ j) ⊎ IsAwaited j f (d ∷ ds) → Meets Takes (j + 1) (trip n log (Some f)) f o d u e → Goes k j (trip n log (Some f)) d ds u e
+met_one : (plan : List Planned) (k j n : ℕ) (log : List Entry) (f : Flight) (o : Option Flight) (d e : DeviceState) (ds : List DeviceState) (u : Trip) → hit (next_fault plan n) f ≡ o → j + length (d ∷ ds) ≤ k
+    → ComesFrom k j f (d ∷ ds) → Meets Takes (j + 1) (trip n log (Some f)) f o d u e → Goes k j (trip n log (Some f)) d ds u e
 met_one plan k j n log f None d e ds u is all at met =
     let lost : Goes k j (trip n log (Some f)) d ds (trip (risen n) (log ++ lost_at f (j + 1) ∷ []) None) d =
-    (lost_one k j n log f d (omega (arith, all)) (source_within j k f (d ∷ ds) all at) (source_where j f (d ∷ ds) at), tt) in
+    (lost_one k j n log f d (omega (arith, all)) (source_within j k f (d ∷ ds) all at) (source_where j k f (d ∷ ds) at), tt) in
     subst (λ u. Goes k j (trip n log (Some f)) d ds u e) (sym met.0) (subst (λ e. Goes k j (trip n log (Some f)) d ds (trip (risen n) (log ++ lost_at f (j + 1) ∷ []) None) e) (sym met.1) lost)
 met_one plan k j n log f (Some g) d e ds u is all at met =
     subst (λ u. Goes k j (trip n log (Some f)) d ds u e) (sym met.2) (answered_one plan k j n log f g met.0 d e ds all at (hit_same (next_fault plan n) f g is) met.1)
 
-pub counted_one : (plan : List Planned) (k j n : ℕ) (log : List Entry) (flight : Option Flight) (d e : DeviceState) (ds : List DeviceState) (u : Trip) → j + length (d ∷ ds) ≡ k
-    → Stands j flight (d ∷ ds) → Passage Takes plan (j + 1) (trip n log flight) d u e → Goes k j (trip n log flight) d ds u e
+pub counted_one : (plan : List Planned) (k j n : ℕ) (log : List Entry) (flight : Option Flight) (d e : DeviceState) (ds : List DeviceState) (u : Trip) → j + length (d ∷ ds) ≤ k
+    → Stands k j flight (d ∷ ds) → Passage Takes plan (j + 1) (trip n log flight) d u e → Goes k j (trip n log flight) d ds u e
 counted_one plan k j n log None d e ds u all at passage =
     subst (λ u. Goes k j (trip n log None) d ds u e) (sym passage.0) (subst (λ e. Goes k j (trip n log None) d ds (trip n log None) e) (sym passage.1) (none_one k j n log d, tt))
 counted_one plan k j n log (Some f) d e ds u all at passage = met_one plan k j n log f (hit (next_fault plan n) f) d e ds u refl all at passage
@@ -228,15 +242,15 @@ nothing k j t = record {
   outside = λ q some most where_. let same : j + 0 ≡ j = omega arith in let come = ap (λ j. brought k j q t.flight) same in omega (arith, come);
 }
 
-pub counted_journey : (plan : List Planned) (k j : ℕ) (t u : Trip) (ds es : List DeviceState) → j + length ds ≡ k → Stands j t.flight ds → Journey plan (j + 1) t ds u es
-    → Counted k j t ds u es × Stands k u.flight []
+pub counted_journey : (plan : List Planned) (k j : ℕ) (t u : Trip) (ds es : List DeviceState) → j + length ds ≤ k → Stands k j t.flight ds → Journey plan (j + 1) t ds u es
+    → Counted k j t ds u es × Stands k (j + length ds) u.flight []
 counted_journey plan k j t u [] [] all at journey =
-    let same : j ≡ k = omega (arith, all) in
-    subst (λ u. Counted k j t [] u [] × Stands k u.flight []) (sym journey) (nothing k j t, subst (λ j. Stands j t.flight []) same at)
+    let same : j ≡ j + 0 = omega arith in
+    subst (λ u. Counted k j t [] u [] × Stands k (j + 0) u.flight []) (sym journey) (nothing k j t, subst (λ j. Stands k j t.flight []) same at)
 counted_journey plan k j t u (d ∷ ds) (e ∷ es) all at journey =
     let one = counted_one plan k j t.crossings t.log t.flight d e ds journey.0 all at journey.1 in
     let more = counted_journey plan k (j + 1) journey.0 u ds es (omega (arith, all)) one.1 journey.2 in
     let far : j + 1 ≡ j + length (d ∷ []) = omega arith in
-    (counted_append k j t journey.0 u (d ∷ []) (e ∷ []) ds es (omega (arith, all)) one.0 (subst (λ j. Counted k j journey.0 ds u es) far more.0), more.1)
+    (counted_append k j t journey.0 u (d ∷ []) (e ∷ []) ds es (omega (arith, all)) one.0 (subst (λ j. Counted k j journey.0 ds u es) far more.0), (let end : j + 1 + length ds ≡ j + length (d ∷ ds) = omega arith in subst (λ j. Stands k j u.flight []) end more.1))
 counted_journey plan k j t u [] (e ∷ es) all at journey = absurd journey
 counted_journey plan k j t u (d ∷ ds) [] all at journey = absurd journey

@@ -29,12 +29,13 @@ use Rattle.il_ring.specs.Plans.{fault_at, next_fault, last_crossing}
 use Rattle.il_ring.specs.Flights.{sourced, altered_by, hit, lost_at, ended_at}
 use Rattle.il_ring.specs.Books.{BooksView, books_emptied}
 use Rattle.il_ring.specs.Fates.{IsMet, IsAltered, CameSo, LostSo, EndsSo, IsByPlan, GoesByPlan, HoldsByPlan, ShowsPlan}
-use Rattle.il_ring.specs.Journeys.{Trip, trip, trip_of, answered, Meets, Reaches, Journey}
+use Rattle.il_ring.specs.Journeys.{Trip, trip, trip_of, answered, Passage, Journey}
 use Rattle.il_ring.specs.Rings.{books_at, comes, home, over_last_link}
 use Rattle.il_ring.proofs.Faults.{risen_within, risen_later}
 use Rattle.il_ring.proofs.Takings.{served_data}
 use Rattle.il_ring.proofs.DataPasses.{served_same, same_byte}
 use Rattle.il_ring.proofs.Passing.{passes_on}
+use Rattle.il_ring.proofs.Journeys.{past_devices, past_party}
 
 -- ---- a frame that a device passes on
 
@@ -228,26 +229,20 @@ module _ (b : BooksView) where
   }
 
   module _ {D : Type 0} (takes : D → Frame → Out → D → Type 0) (rule : (d e : D) (f h : Frame) → takes d f (Pass h) e → PassesSo f h) where
-    meets_so : (k : ℕ) (t u : Trip) (f : Flight) (o : Option Flight) (d e : D) → TellsTrip b t → GoesSo b.plan b.begun (risen t.crossings) f o → Meets takes k t f o d u e → TellsTrip b u
-    meets_so k t u f None d e tells lost meets =
+    pub passage_so : (k : ℕ) (t u : Trip) (d e : D) → TellsTrip b t → Passage takes b.plan k t d u e → TellsTrip b u
+    passage_so k t u d e tells passage =
         let later = told_on (books_at b t) (risen t.crossings) (risen_later t.crossings tells.within) tells.told in
-        subst (TellsTrip b) (sym meets.0) (record { told = told_noted (books_at b (trip (risen t.crossings) t.log None)) (lost_at f k) lost later; within = risen_within t.crossings; way = tt })
-    meets_so k t u f (Some g) d e tells way meets =
-        let later = told_on (books_at b t) (risen t.crossings) (risen_later t.crossings tells.within) tells.told in
-        subst (TellsTrip b) (sym meets.2)
-        (answered_so (risen t.crossings) k t.log g meets.0 (risen_within t.crossings) later way (λ h is. rule d e g.now h (subst (λ out. takes d g.now out e) is meets.1)))
-
-    pub reaches_so : (k : ℕ) (t u : Trip) (o : Option Flight) (d e : D) → TellsTrip b t → HoldsByPlan b.plan b.begun t.crossings o → Reaches takes b.plan k t o d u e → TellsTrip b u
-    reaches_so k t u None d e tells way reaches = subst (TellsTrip b) (sym reaches.0) tells
-    reaches_so k t u (Some f) d e tells way reaches =
-        meets_so k t u f (hit (next_fault b.plan t.crossings) f) d e tells (hit_so b.plan b.begun t.crossings f (next_fault b.plan t.crossings) tells.told.begun tells.within refl way) reaches
+        let way : (f : Flight) (o : Option Flight) → t.flight ≡ Some f → hit (next_fault b.plan t.crossings) f ≡ o → GoesSo b.plan b.begun (risen t.crossings) f o =
+        λ f o is came. subst (GoesSo b.plan b.begun (risen t.crossings) f) came
+        (hit_so b.plan b.begun t.crossings f (next_fault b.plan t.crossings) tells.told.begun tells.within refl (subst (HoldsByPlan b.plan b.begun t.crossings) is tells.way)) in
+        past_party takes b.plan k t d (λ u e. TellsTrip b u) (λ is. tells)
+        (λ f is gone. record { told = told_noted (books_at b (trip (risen t.crossings) t.log None)) (lost_at f k) (way f None is gone) later; within = risen_within t.crossings; way = tt })
+        (λ f g out e is came took. answered_so (risen t.crossings) k t.log g out (risen_within t.crossings) later (way f (Some g) is came) (λ h same. rule d e g.now h (subst (λ out. takes d g.now out e) same took)))
+        u e passage
 
   pub journey_so : (k : ℕ) (t u : Trip) (ds es : List DeviceState) → TellsTrip b t → Journey b.plan k t ds u es → TellsTrip b u
-  journey_so k t u [] [] tells journey = subst (TellsTrip b) (sym journey) tells
-  journey_so k t u (d ∷ ds) (e ∷ es) tells journey =
-      journey_so (k + 1) journey.0 u ds es (reaches_so Takes (λ d e f h takes. passes_so d e f h takes) k t journey.0 t.flight d e tells tells.way journey.1) journey.2
-  journey_so k t u [] (e ∷ es) tells journey = absurd journey
-  journey_so k t u (d ∷ ds) [] tells journey = absurd journey
+  journey_so k t u ds es tells journey =
+      (past_devices b.plan 0 (λ k t. TellsTrip b t) (λ d e. Unit {0}) (λ k t u d e some tells passage. (passage_so Takes (λ d e f h takes. passes_so d e f h takes) k t u d e tells passage, tt)) k t u ds es (omega arith) tells journey).0
 
 -- ---- at home
 

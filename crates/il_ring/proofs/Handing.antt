@@ -1,5 +1,5 @@
 -- No device hands control over: behind each, a frame that does not do so is one that does not.
-use Rattle.std.proofs.Common.{◌≡◌, ◌≤◌, ◌+◌, ◌==◌, ℕ, suc, Bool, true, false, List, [], ◌∷◌, Option, Some, None, refl, sym, ap, subst, ◌∙◌, arith}
+use Rattle.std.proofs.Common.{◌≡◌, ◌≤◌, ◌==◌, ℕ, suc, Bool, true, false, List, [], ◌∷◌, Option, Some, None, refl, sym, ap, subst, ◌∙◌}
 use Rattle.std.specs.Prelude.{◌-◌, if◌then◌else◌}
 use Rattle.il_frames.specs.declared.entry.Entry.{Entry}
 use Rattle.il_frames.specs.declared.frame.Class.{Class}
@@ -26,8 +26,9 @@ use Rattle.il_ring.specs.declared.plan.PlanFault.{PlanFault}
 use Rattle.il_ring.specs.declared.flight.Flight.{Flight}
 use Rattle.il_ring.specs.Plans.{next_fault}
 use Rattle.il_ring.specs.Flights.{sourced, hit}
-use Rattle.il_ring.specs.Journeys.{Trip, answered, Meets, Reaches, Journey, is_exact, is_identify_class}
+use Rattle.il_ring.specs.Journeys.{Trip, answered, Passage, Journey, is_exact, is_identify_class}
 use Rattle.il_ring.proofs.Passing.{Carries, Exactly, AsData, AsIdentify, carries_on}
+use Rattle.il_ring.proofs.Journeys.{past_devices, past_party}
 use Rattle.il_ring.proofs.RoundRoles.{IsQuiet, hit_carries, sent_quiet}
 
 -- ---- each frame carries its own message
@@ -101,22 +102,14 @@ module _ (bad : Message → Bool) (never : NeverMade bad) where
       let quiet = sent_quiet k d e g.now h some takes in
       carried_lacks quiet.message h quiet.carries (never.sent (sourced k h) quiet)
 
-  met_lacks : (k : ℕ) (t : Trip) (f : Flight) (o : Option Flight) (d e : DeviceState) (u : Trip) → 1 ≤ k → OnWay Lacks o → Meets Takes k t f o d u e → OnWay Lacks u.flight
-  met_lacks k t f None d e u some none met = subst (OnWay Lacks) (ap (λ (u : Trip). u.flight) (sym met.0)) tt
-  met_lacks k t f (Some g) d e u some none met = subst (OnWay Lacks) (ap (λ (u : Trip). u.flight) (sym met.2)) (answered_lacks k (risen t.crossings) t.log g met.0 d e some none met.1)
+  -- past a party, and past devices
+  pub passage_lacks : (plan : List Planned) (k : ℕ) (t u : Trip) (d e : DeviceState) → 1 ≤ k → OnWay Lacks t.flight → Passage Takes plan k t d u e → OnWay Lacks u.flight
+  passage_lacks plan k t u d e some none passage = past_party Takes plan k t d (λ u e. OnWay Lacks u.flight) (λ is. none) (λ f is gone. tt)
+      (λ f g out e is came takes. answered_lacks k (risen t.crossings) t.log g out d e some (hit_lacks (next_fault plan t.crossings) f (Some g) (subst (OnWay Lacks) is none) came) takes) u e passage
 
-  reached_lacks : (plan : List Planned) (k : ℕ) (t : Trip) (o : Option Flight) (d e : DeviceState) (u : Trip) → 1 ≤ k → t.flight ≡ o → OnWay Lacks o → Reaches Takes plan k t o d u e → OnWay Lacks u.flight
-  reached_lacks plan k t None d e u some is none reached = subst (OnWay Lacks) (sym is ∙ ap (λ (u : Trip). u.flight) (sym reached.0)) tt
-  reached_lacks plan k t (Some f) d e u some is none reached =
-      met_lacks k t f (hit (next_fault plan t.crossings) f) d e u some (hit_lacks (next_fault plan t.crossings) f (hit (next_fault plan t.crossings) f) none refl) reached
-
-  -- past devices
   pub journey_lacks : (plan : List Planned) (k : ℕ) (t u : Trip) (ds es : List DeviceState) → 1 ≤ k → OnWay Lacks t.flight → Journey plan k t ds u es → OnWay Lacks u.flight
-  journey_lacks plan k t u [] [] some none journey = subst (OnWay Lacks) (ap (λ (u : Trip). u.flight) (sym journey)) none
-  journey_lacks plan k t u (d ∷ ds) (e ∷ es) some none journey =
-      journey_lacks plan (k + 1) journey.0 u ds es (omega arith) (reached_lacks plan k t t.flight d e journey.0 some refl none journey.1) journey.2
-  journey_lacks plan k t u [] (e ∷ es) some none journey = absurd journey
-  journey_lacks plan k t u (d ∷ ds) [] some none journey = absurd journey
+  journey_lacks plan k t u ds es some none journey =
+      (past_devices plan 1 (λ k t. OnWay Lacks t.flight) (λ d e. Unit {0}) (λ k t u d e some none passage. (passage_lacks plan k t u d e some none passage, tt)) k t u ds es some none journey).0
 
 -- ---- TCT and IFC are such
 

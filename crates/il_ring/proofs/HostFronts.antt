@@ -1,11 +1,10 @@
 -- Entries of the host before a lend tell no status to a second controller.
-use Rattle.std.proofs.Common.{◌≡◌, ◌∙◌, ◌++◌, ◌==◌, ◌&&◌, ℕ, Bool, true, false, List, [], ◌∷◌, Option, None, if◌then◌else◌, refl, ap}
+use Rattle.std.proofs.Common.{◌≡◌, ◌∙◌, ◌++◌, ◌==◌, ◌&&◌, ℕ, Bool, true, false, List, [], ◌∷◌, if◌then◌else◌, refl, ap}
 use Rattle.std.specs.List.{list_all}
 use Rattle.std.proofs.lemmas.Bool.{and_parts, eqb-true}
 use Rattle.il_frames.specs.declared.entry.Entry.{Entry}
 use Rattle.il_frames.specs.Frames.{byte_of}
-use Rattle.il_frames.specs.Messages.{message_of}
-use Rattle.il_ring.specs.Statuses.{asked_behind, is_told, known_of, last_told, told_by}
+use Rattle.il_ring.specs.Statuses.{is_told, told_by}
 
 -- the host sent it
 abbrev pub is_from_host : Entry → Bool
@@ -14,19 +13,6 @@ is_from_host e = e.source == 0
 -- and no other party
 not_of_other : (e : Entry) (k : ℕ) → is_from_host e ≡ true → (0 == k) ≡ false → (e.source == k) ≡ false
 not_of_other e k host other = ap (λ s. s == k) (eqb-true e.source 0 host) ∙ other
-
--- as long as no address is asked, they leave what is known
-known_behind_host : (k a : ℕ) (before : Option ℕ) (front rest : List Entry) → list_all is_from_host front ≡ true → (0 == k) ≡ false
-    → known_of k a None before (front ++ rest) ≡ known_of k a None before rest
-known_behind_host k a before [] rest hosts other = refl
-known_behind_host k a before (e ∷ front) rest hosts other =
-    let parts = and_parts (is_from_host e) (list_all is_from_host front) hosts in
-    ap (λ own. known_of k a (if own then asked_behind None (message_of e.frame) else None) before (front ++ rest)) (not_of_other e k parts.0 other)
-    ∙ known_behind_host k a before front rest parts.1 other
-
--- behind them each address has the last status that the rest tells
-pub last_told_behind_host : (k a : ℕ) (front rest : List Entry) → list_all is_from_host front ≡ true → (0 == k) ≡ false → last_told k a (front ++ rest) ≡ last_told k a rest
-last_told_behind_host k a front rest hosts other = known_behind_host k a None front rest hosts other
 
 -- no device told anything by them
 pub told_by_behind_host : (k q : ℕ) (front rest : List Entry) → list_all is_from_host front ≡ true → (0 == q) ≡ false → told_by k q (front ++ rest) ≡ told_by k q rest

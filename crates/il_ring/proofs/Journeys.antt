@@ -1,10 +1,16 @@
--- A journey goes on by one device, and two journeys join.
-use Rattle.std.proofs.Common.{◌≡◌, ℕ, ◌+◌, ◌<◌, List, [], ◌∷◌, ◌++◌, length, map, take, drop, get_or, set, refl, sym, ap, subst, ◌∙◌, arith, add-zero}
+-- A journey goes on by one device, and two journeys join. What holds of a trip as it comes to each party, and of each party then, holds past all of them.
+use Rattle.std.proofs.Common.{◌≡◌, ℕ, ◌+◌, ◌<◌, ◌≤◌, Option, Some, None, List, [], ◌∷◌, ◌++◌, length, map, take, drop, get_or, set, refl, sym, ap, subst, ◌∙◌, arith, add-zero}
 use Rattle.std.proofs.lemmas.List.{take_more, take_more_set, drop-set-lt, get_or-drop, map-append, length-map, length-take-le, drop-drop}
-use Rattle.il_device.specs.State.{DeviceState}
+use Rattle.il_frames.specs.declared.frame.Frame.{Frame}
+use Rattle.il_device.specs.declared.device.Out.{Out}
+use Rattle.il_device.specs.State.{DeviceState, risen}
 use Rattle.il_device.specs.Takes.{Takes}
+use Rattle.il_ring.specs.declared.flight.Flight.{Flight}
 use Rattle.il_ring.specs.declared.plan.Planned.{Planned}
-use Rattle.il_ring.specs.Journeys.{Trip, Passage, Journey}
+use Rattle.il_ring.specs.Flights.{hit}
+use Rattle.il_ring.specs.Journeys.{Trip, answered, missed, Meets, Reaches, Passage, Journey}
+use Rattle.il_ring.specs.Lists.{First}
+use Rattle.il_ring.specs.Plans.{next_fault}
 
 -- one behind the other
 pub Journey-append : (plan : List Planned) (k p : ℕ) (t u v : Trip) (ds es xs ys : List DeviceState) → p ≡ k + length ds → Journey plan k t ds u es → Journey plan p u xs v ys → Journey plan k t (ds ++ xs) v (es ++ ys)
@@ -35,3 +41,34 @@ Journey-more state plan same k p i t u v old now r e plans below len at rest jou
 -- the others stand as they stood
 pub rest_more : {D : Type 0} (i : ℕ) (old now : List D) (e : D) → drop i now ≡ drop i old → drop (i + 1) (set now i e) ≡ drop (i + 1) old
 rest_more i old now e rest = drop-set-lt (i + 1) now i e (omega arith) ∙ sym (drop-drop 1 i now) ∙ ap (λ xs. drop 1 xs) rest ∙ drop-drop 1 i old
+
+-- ---- past one party, and past devices
+
+-- What holds past party k, of the trip and of the party's state, if it holds where no frame is on its way, where the frame was lost on the link to
+-- that party, and where the party answered it.
+module _ {D : Type 0} (takes : D → Frame → Out → D → Type 0) (plan : List Planned) (k : ℕ) (t : Trip) (d : D) (P : Trip → D → Type 0) (none : t.flight ≡ None → P t d)
+    (lost : (f : Flight) → t.flight ≡ Some f → hit (next_fault plan t.crossings) f ≡ None → P (missed (risen t.crossings) t.log k f) d)
+    (answers : (f g : Flight) (out : Out) (e : D) → t.flight ≡ Some f → hit (next_fault plan t.crossings) f ≡ Some g → takes d g.now out e → P (answered (risen t.crossings) t.log k g out) e) (u : Trip) (e : D) where
+  met_by : (f : Flight) (o : Option Flight) → t.flight ≡ Some f → hit (next_fault plan t.crossings) f ≡ o → Meets takes k t f o d u e → P u e
+  met_by f None is gone met = subst (λ u. P u e) (sym met.0) (subst (λ e. P (missed (risen t.crossings) t.log k f) e) (sym met.1) (lost f is gone))
+  met_by f (Some g) is came met = subst (λ u. P u e) (sym met.2) (answers f g met.0 e is came met.1)
+
+  reached_by : (o : Option Flight) → t.flight ≡ o → Reaches takes plan k t o d u e → P u e
+  reached_by None is reached = subst (λ u. P u e) (sym reached.0) (subst (λ e. P t e) (sym reached.1) (none is))
+  reached_by (Some f) is reached = met_by f (hit (next_fault plan t.crossings) f) is refl reached
+
+  pub past_party : Passage takes plan k t d u e → P u e
+  past_party passage = reached_by t.flight refl passage
+
+-- Past devices, the first of which is party k, `least` or a later one: I holds of the trip as it comes to each party and behind the last, and R of each
+-- device, if one party keeps to that.
+module _ (plan : List Planned) (least : ℕ) (I : ℕ → Trip → Type 0) (R : DeviceState → DeviceState → Type 0) (one : (k : ℕ) (t u : Trip) (d e : DeviceState) → least ≤ k → I k t → Passage Takes plan k t d u e → I (k + 1) u × R d e) where
+  pub past_devices : (k : ℕ) (t u : Trip) (ds es : List DeviceState) → least ≤ k → I k t → Journey plan k t ds u es → I (k + length ds) u × First R (length ds) ds es
+  past_devices k t u [] [] some before journey = (subst (λ u. I (k + 0) u) (sym journey) (let same : k ≡ k + 0 = omega arith in subst (λ k. I k t) same before), tt)
+  past_devices k t u (d ∷ ds) (e ∷ es) some before journey =
+      let first = one k t journey.0 d e some before journey.1 in
+      let more = past_devices (k + 1) journey.0 u ds es (omega (arith, some)) first.0 journey.2 in
+      let far : k + 1 + length ds ≡ k + length (d ∷ ds) = omega arith in
+      (subst (λ k. I k u) far more.0, (first.1, more.1))
+  past_devices k t u [] (e ∷ es) some before journey = absurd journey
+  past_devices k t u (d ∷ ds) [] some before journey = absurd journey

@@ -12,11 +12,9 @@ use Rattle.il_device.specs.declared.interface.Turn.TheVariants as turn
 use Rattle.il_device.specs.State.{DeviceState}
 use Rattle.il_device.specs.Takes.{Takes, turn_of, turn_at, turn_at_data, turn_at_start, asked_for_id, heard_after, count_after}
 use Rattle.il_ring.specs.declared.plan.Planned.{Planned}
-use Rattle.il_ring.specs.declared.flight.Flight.{Flight}
-use Rattle.il_ring.specs.Plans.{next_fault}
-use Rattle.il_ring.specs.Flights.{hit}
-use Rattle.il_ring.specs.Journeys.{Trip, Meets, Reaches, Journey}
+use Rattle.il_ring.specs.Journeys.{Trip, Passage, Journey}
 use Rattle.il_ring.specs.Outcomes.{Keeps, AllKeep}
+use Rattle.il_ring.proofs.Journeys.{past_party}
 
 -- ---- only a listener hears
 
@@ -75,17 +73,12 @@ stays_keeps d e is = record {
   unheard = λ silent. (ap (λ (d : DeviceState). d.heard) is, ap (λ (d : DeviceState). d.heard_count) is);
 }
 
-meets_keeps : (k : ℕ) (t : Trip) (f : Flight) (o : Option Flight) (d e : DeviceState) (u : Trip) → Meets Takes k t f o d u e → Keeps d e
-meets_keeps k t f None d e u meets = stays_keeps d e meets.1
-meets_keeps k t f (Some g) d e u meets = takes_keeps d e g.now meets.0 meets.1
-
-reaches_keeps : (plan : List Planned) (k : ℕ) (t : Trip) (o : Option Flight) (d e : DeviceState) (u : Trip) → Reaches Takes plan k t o d u e → Keeps d e
-reaches_keeps plan k t None d e u reaches = stays_keeps d e reaches.1
-reaches_keeps plan k t (Some f) d e u reaches = meets_keeps k t f (hit (next_fault plan t.crossings) f) d e u reaches
+passage_keeps : (plan : List Planned) (k : ℕ) (t : Trip) (d e : DeviceState) (u : Trip) → Passage Takes plan k t d u e → Keeps d e
+passage_keeps plan k t d e u passage = past_party Takes plan k t d (λ u e. Keeps d e) (λ is. stays_keeps d d refl) (λ f is gone. stays_keeps d d refl) (λ f g out e is came takes. takes_keeps d e g.now out takes) u e passage
 
 -- each device of a journey keeps its accessory ID and its room, and hears nothing where it does not listen
 pub journey_keeps : (plan : List Planned) (k : ℕ) (t u : Trip) (ds es : List DeviceState) → Journey plan k t ds u es → AllKeep ds es
 journey_keeps plan k t u [] [] journey = tt
-journey_keeps plan k t u (d ∷ ds) (e ∷ es) journey = (reaches_keeps plan k t t.flight d e journey.0 journey.1, journey_keeps plan (k + 1) journey.0 u ds es journey.2)
+journey_keeps plan k t u (d ∷ ds) (e ∷ es) journey = (passage_keeps plan k t d e journey.0 journey.1, journey_keeps plan (k + 1) journey.0 u ds es journey.2)
 journey_keeps plan k t u [] (e ∷ es) journey = absurd journey
 journey_keeps plan k t u (d ∷ ds) [] journey = absurd journey

@@ -1,5 +1,5 @@
 -- Crossings only go up along a round, so that what is met on a part of it is met on the whole.
-use Rattle.std.proofs.Common.{◌≡◌, ◌≢◌, ◌≤◌, ◌+◌, ℕ, Bool, true, false, List, [], ◌∷◌, Option, Some, None, refl, sym, ap, ◌∙◌, arith}
+use Rattle.std.proofs.Common.{◌≡◌, ◌≢◌, ◌≤◌, ◌+◌, ℕ, Bool, true, false, List, [], Option, Some, None, refl, sym, ap, ◌∙◌, arith}
 use Rattle.std.specs.Prelude.{◌==◌}
 use Rattle.il_frames.specs.declared.frame.Frame.{Frame}
 use Rattle.il_frames.specs.declared.entry.Entry.{Entry}
@@ -16,11 +16,12 @@ use Rattle.il_ring.specs.declared.flight.Flight.{Flight}
 use Rattle.il_ring.specs.Plans.{hops_of, next_fault, last_crossing}
 use Rattle.il_ring.specs.Flights.{hit}
 use Rattle.il_ring.specs.Books.{BooksView}
-use Rattle.il_ring.specs.Journeys.{Trip, answered, Meets, Reaches, Passage, Journey}
+use Rattle.il_ring.specs.Journeys.{Trip, answered, Passage, Journey}
 use Rattle.il_ring.specs.Rings.{RingView, Round, home, comes, over_last_link, books_at}
 use Rattle.il_ring.specs.Outcomes.{met_between}
 use Rattle.il_ring.proofs.Faults.{met_at}
 use Rattle.il_ring.proofs.Counts.{risen_by-add}
+use Rattle.il_ring.proofs.Journeys.{past_devices, past_party}
 
 -- so many links more
 abbrev pub Later : ℕ → ℕ → Type 0
@@ -39,23 +40,14 @@ pub answered_count : (n : ℕ) (log : List Entry) (k : ℕ) (f : Flight) (out : 
 answered_count n log k f (Pass g) = refl
 answered_count n log k f (Source g) = refl
 
-meets_later : {D : Type 0} (takes : D → Frame → Out → D → Type 0) (k : ℕ) (t : Trip) (f : Flight) (o : Option Flight) (d e : D) (u : Trip) → Meets takes k t f o d u e → Later t.crossings u.crossings
-meets_later takes k t f None d e u meets = later_one t.crossings u.crossings (ap (λ (u : Trip). u.crossings) meets.0)
-meets_later takes k t f (Some g) d e u meets = later_one t.crossings u.crossings (ap (λ (u : Trip). u.crossings) meets.2 ∙ answered_count (risen t.crossings) t.log k g meets.0)
-
-reaches_later : {D : Type 0} (takes : D → Frame → Out → D → Type 0) (plan : List Planned) (k : ℕ) (t : Trip) (o : Option Flight) (d e : D) (u : Trip) → Reaches takes plan k t o d u e → Later t.crossings u.crossings
-reaches_later takes plan k t None d e u reaches = later_same t.crossings u.crossings (ap (λ (u : Trip). u.crossings) reaches.0)
-reaches_later takes plan k t (Some f) d e u reaches = meets_later takes k t f (hit (next_fault plan t.crossings) f) d e u reaches
-
 pub passage_later : {D : Type 0} (takes : D → Frame → Out → D → Type 0) (plan : List Planned) (k : ℕ) (t : Trip) (d e : D) (u : Trip) → Passage takes plan k t d u e → Later t.crossings u.crossings
-passage_later takes plan k t d e u passage = reaches_later takes plan k t t.flight d e u passage
+passage_later takes plan k t d e u passage = past_party takes plan k t d (λ u e. Later t.crossings u.crossings) (λ is. later_same t.crossings t.crossings refl) (λ f is gone. later_one t.crossings (risen t.crossings) refl)
+    (λ f g out e is came took. later_one t.crossings (answered (risen t.crossings) t.log k g out).crossings (answered_count (risen t.crossings) t.log k g out)) u e passage
 
 pub journey_later : (plan : List Planned) (k : ℕ) (t u : Trip) (ds es : List DeviceState) → Journey plan k t ds u es → Later t.crossings u.crossings
-journey_later plan k t u [] [] journey = later_same t.crossings u.crossings (ap (λ (u : Trip). u.crossings) journey)
-journey_later plan k t u (d ∷ ds) (e ∷ es) journey =
-    later_then t.crossings journey.0.crossings u.crossings (passage_later Takes plan k t d e journey.0 journey.1) (journey_later plan (k + 1) journey.0 u ds es journey.2)
-journey_later plan k t u [] (e ∷ es) journey = absurd journey
-journey_later plan k t u (d ∷ ds) [] journey = absurd journey
+journey_later plan k t u ds es journey =
+    (past_devices plan 0 (λ k u. Later t.crossings u.crossings) (λ d e. Unit {0})
+    (λ k m u d e some before passage. (later_then t.crossings m.crossings u.crossings before (passage_later Takes plan k m d e u passage), tt)) k t u ds es (omega arith) (later_same t.crossings t.crossings refl) journey).0
 
 comes_count : (b : BooksView) (f : Flight) (own data_frame : Bool) → (comes b f own data_frame).crossings ≡ b.crossings
 comes_count b f true data_frame = refl

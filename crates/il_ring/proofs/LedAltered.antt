@@ -21,13 +21,14 @@ use Rattle.il_ring.specs.declared.plan.Arrival.{Arrival}
 use Rattle.il_ring.specs.declared.flight.Flight.{Flight}
 use Rattle.il_ring.specs.Books.{BooksView}
 use Rattle.il_ring.specs.Flights.{HasAltered, hit}
-use Rattle.il_ring.specs.Journeys.{Journey, Meets, Reaches, Trip, answered, trip_of}
+use Rattle.il_ring.specs.Journeys.{Journey, Passage, Trip, answered, trip_of}
 use Rattle.il_ring.specs.Lending.{GuestMeets, GuestReaches, LastPassage, LedRound, LedTrip, books_led, leads, led_answers, led_home, led_sends, lent_home, over_lent_link}
 use Rattle.il_ring.specs.Outcomes.{met_between}
 use Rattle.il_ring.specs.Plans.{fault_at, hops_of, last_crossing, next_fault}
 use Rattle.il_ring.specs.Rings.{RingView, devices_of}
 use Rattle.il_ring.proofs.Faults.{met_at, risen_later, risen_within}
 use Rattle.il_ring.proofs.LedRounds.{led_to_last}
+use Rattle.il_ring.proofs.Journeys.{past_devices, past_party}
 
 -- ---- what is met on a part of a way
 
@@ -90,37 +91,26 @@ module _ (plan : List Planned) where
   came_altered t f at is within came altered =
       ⊎_elim (λ before. inl (f, is, before)) (λ planned. inr (met_next plan t.crossings planned)) (hit_altered (next_fault plan t.crossings) f at came altered)
 
-  meets_tracks : (k : ℕ) (t u : Trip) (f : Flight) (o : Option Flight) (d e : DeviceState) → t.flight ≡ Some f → t.crossings ≤ last_crossing → hit (next_fault plan t.crossings) f ≡ o → Meets Takes k t f o d u e → Tracks t u
-  meets_tracks k t u f None d e is within came meets = subst (Tracks t) (sym meets.0) (record {
-    later = risen_later t.crossings within;
-    within = risen_within t.crossings;
-    altered = λ way. let clash = way.1 in cc;
-  })
-  meets_tracks k t u f (Some at) d e is within came meets = subst (Tracks t) (sym meets.2) (by meets.0)
+  passage_tracks : (k : ℕ) (t u : Trip) (d e : DeviceState) → t.crossings ≤ last_crossing → Passage Takes plan k t d u e → Tracks t u
+  passage_tracks k t u d e within passage = past_party Takes plan k t d (λ u e. Tracks t u) (λ is. tracks_same t t within refl)
+      (λ f is gone. record { later = risen_later t.crossings within; within = risen_within t.crossings; altered = λ way. let clash = way.1 in cc })
+      (λ f at out e is came takes. by f at is came out) u e passage
     where
-      by : (answer : Out) → Tracks t (answered (risen t.crossings) t.log k at answer)
-      by (Pass g) = record {
+      by : (f at : Flight) → t.flight ≡ Some f → hit (next_fault plan t.crossings) f ≡ Some at → (answer : Out) → Tracks t (answered (risen t.crossings) t.log k at answer)
+      by f at is came (Pass g) = record {
         later = risen_later t.crossings within;
         within = risen_within t.crossings;
         altered = λ way. came_altered t f at is within came (ap (λ (o : Option Flight). elim o [ Some h ↦ h.altered | None ↦ true ]) way.1 ∙ way.2);
       }
-      by (Source g) = record {
+      by f at is came (Source g) = record {
         later = risen_later t.crossings within;
         within = risen_within t.crossings;
         altered = λ way. let same : false ≡ way.0.altered = ap (λ (o : Option Flight). elim o [ Some h ↦ h.altered | None ↦ false ]) way.1 in let clash = same ∙ way.2 in cc;
       }
 
-  reaches_tracks : (k : ℕ) (t u : Trip) (o : Option Flight) (d e : DeviceState) → t.flight ≡ o → t.crossings ≤ last_crossing → Reaches Takes plan k t o d u e → Tracks t u
-  reaches_tracks k t u None d e is within reaches = tracks_same t u within reaches.0
-  reaches_tracks k t u (Some f) d e is within reaches = meets_tracks k t u f (hit (next_fault plan t.crossings) f) d e is within refl reaches
-
   pub journey_tracks : (k : ℕ) (t u : Trip) (ds es : List DeviceState) → t.crossings ≤ last_crossing → Journey plan k t ds u es → Tracks t u
-  journey_tracks k t u [] [] within journey = tracks_same t u within journey
-  journey_tracks k t u (d ∷ ds) (e ∷ es) within journey =
-      let first = reaches_tracks k t journey.0 t.flight d e refl within journey.1 in
-      tracks_then t journey.0 u first (journey_tracks (k + 1) journey.0 u ds es first.within journey.2)
-  journey_tracks k t u [] (e ∷ es) within journey = absurd journey
-  journey_tracks k t u (d ∷ ds) [] within journey = absurd journey
+  journey_tracks k t u ds es within journey =
+      (past_devices plan 0 (λ k u. Tracks t u) (λ d e. Unit {0}) (λ k m u d e some before passage. (tracks_then t m u before (passage_tracks k m u d e before.within passage), tt)) k t u ds es (omega arith) (tracks_same t t within refl) journey).0
 
   -- ---- at the second controller
 

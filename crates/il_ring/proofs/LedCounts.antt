@@ -1,10 +1,8 @@
--- What a pass on a lent ring adds to the counts: links, and frames that came to each device.
-use Rattle.std.proofs.Common.{◌≡◌, ◌≤◌, ◌<◌, ◌+◌, ◌++◌, ◌==◌, ◌⊎◌, inl, inr, ⊎_elim, ℕ, zero, suc, Bool, true, false, cond, List, [], ◌∷◌, Option, Some, None, option_map, sum_by, count_by, length, refl, sym, ap, ap₂, subst, ◌∙◌, arith, append-nil, append_assoc, length-append}
+-- What a round adds to the counts on a ring with a second controller: links, and frames that came to each device. The frame goes past the
+-- devices, past the second controller and over the last link, and what is under way then counts as it would end.
+use Rattle.std.proofs.Common.{◌≡◌, ◌≤◌, ◌<◌, ◌+◌, ◌++◌, ◌⊎◌, inl, inr, ⊎_elim, ℕ, zero, suc, Bool, true, false, cond, List, [], ◌∷◌, Option, Some, None, sum_by, count_by, length, refl, sym, ap, ap₂, subst, ◌∙◌, arith, append-nil, append_assoc, length-append}
 use Rattle.std.specs.Prelude.{if◌then◌else◌}
-use Rattle.std.specs.List.{list_all}
-use Rattle.std.proofs.lemmas.Bool.{ne_eqb}
-use Rattle.std.proofs.lemmas.List.{map-append}
-use Rattle.std.proofs.lemmas.List.Sums.{sum_by-cons, sum_by-append, sum_by_push}
+use Rattle.std.proofs.lemmas.List.Sums.{sum_by-append, sum_by_push}
 use Rattle.il_frames.specs.declared.frame.Frame.{Frame}
 use Rattle.il_frames.specs.declared.entry.Entry.{Entry}
 use Rattle.il_frames.specs.declared.entry.Outcome.TheVariants as outcome
@@ -23,27 +21,27 @@ use Rattle.il_guest.specs.declared.guest.GuestOut.TheVariants as reply
 use Rattle.il_guest.specs.State.{GuestState, is_leading}
 use Rattle.il_guest.specs.Steps.{expecting, out_of}
 use Rattle.il_guest.specs.Takes.{GuestTakes, answer_under, guest_under, leading, under_host}
-use Rattle.loop_model.specs.Reach.{links_of, brings_to, held_links, held_passes, links_so_far, passes_so_far}
+use Rattle.loop_model.specs.Reach.{links_of, brings_to}
 use Rattle.il_ring.specs.declared.plan.Arrival.{Arrival}
 use Rattle.il_ring.specs.declared.flight.Flight.{Flight}
 use Rattle.il_ring.specs.Plans.{next_fault}
 use Rattle.il_ring.specs.Flights.{sourced, hit, lost_at, ended_at}
 use Rattle.il_ring.specs.Books.{BooksView}
-use Rattle.il_ring.specs.Journeys.{trip}
-use Rattle.il_ring.specs.Rings.{RingView, arrived, arriving, comes, devices_of}
-use Rattle.il_ring.specs.Rounded.{IsAwaited, IsReady, Rounded, AllTook, device_sending, holding}
-use Rattle.il_ring.specs.Guests.{mind_of}
+use Rattle.il_ring.specs.Journeys.{Trip, missed, trip, trip_of}
+use Rattle.il_ring.specs.Rings.{RingView, arrived, arriving, devices_of}
+use Rattle.il_ring.specs.Rounded.{IsReady}
+use Rattle.il_ring.specs.Guests.{guest_devices, guest_mind, mind_of}
 use Rattle.il_ring.specs.LedAdds.{LedCounts, AllTookSince, TookSince, standing}
-use Rattle.il_ring.specs.Lending.{IsLed, LedTrip, StandsLent, StandsUnder, books_led, entry_where, going_on, led, led_answers, led_home, led_sends, leads, lent_home}
-use Rattle.il_ring.specs.Turned.{Halves, NothingCame, SomeCame, StandsNot, StandsThere, books_anew, ring_before_last, turned_entry, turned_entries, turned_flight, is_on}
-use Rattle.il_ring.proofs.CountSteps.{hit_same}
-use Rattle.il_ring.proofs.RoundCounts.{round_counts}
-use Rattle.il_ring.proofs.RoundEntries.{round_tells}
-use Rattle.il_ring.proofs.Counts.{risen_by-add}
-use Rattle.il_ring.proofs.TurnedCounts.{turned_sum, turned_passes, turned_passes_last, own_taken-links, own_lost-links, last_taken-links, home_taken-links, home_lost-links, own_taken-passes, own_lost-passes, last_taken-passes, home_taken-passes, home_lost-passes, own_taken-last, own_lost-last, last_taken-last, home_taken-last, home_lost-last}
-use Rattle.il_ring.proofs.TurnedRounds.{ended_home}
+use Rattle.il_ring.specs.Lending.{GuestMeets, GuestReaches, IsLed, LastPassage, LedRound, LedTrip, StandsLent, StandsUnder, books_led, entry_where, going_on, led, led_answers, led_home, led_sends, leads, lent_home}
+use Rattle.il_ring.specs.Turned.{StandsNot, StandsThere, turned, turned_flight}
+use Rattle.il_ring.specs.Ways.{way, on_way, brought}
+use Rattle.il_ring.proofs.Counts.{Counted, Framed, entries_to, risen_by-add}
+use Rattle.il_ring.proofs.CountSteps.{Stands, hit_same, source_within, counted_journey}
+use Rattle.il_ring.proofs.LedRounds.{led_to_last}
 use Rattle.il_ring.proofs.PassSteps.{goes_home, last_home, silent_home}
-use Rattle.il_ring.proofs.RoundHomeward.{Homeward, arriving_one, home_at, round_homeward, standing_one, stood, strictly}
+use Rattle.il_ring.proofs.Rings.{Journey-length}
+use Rattle.il_ring.proofs.Turnings.{some_flight}
+use Rattle.il_ring.proofs.EntryMeasures.{IsMeasure, at_host, came_measure, last_measure, links_measure, way-some}
 
 -- ---- the last party in a pass
 
@@ -89,6 +87,12 @@ kept_held k (control.Rounds (place.Relayed a d)) f h stands = let clash = stands
 kept_held k control.Silent f h stands = absurd stands
 kept_held k control.Host f h stands = absurd stands
 
+unkept_in : (k : ℕ) (g h : GuestState) (f : Flight) (at : Frame) (given : GuestOut) (x : Frame) (kept : Option Flight) → StandsUnder k g.control f kept → is_leading h.control ≡ true → GuestTakes g at given h → given ≡ reply.Source x → kept ≡ None
+unkept_in k g h f at given x None stands lead takes sends = refl
+unkept_in k g h f at given x (Some y) stands lead takes sends =
+    let held = kept_held k g.control f y stands in
+    absurd (held_sends g h at x held.0 held.1 given held.2 lead takes sends)
+
 in_rounds : (k : ℕ) (c : Control) (f : Flight) (kept : Option Flight) → StandsUnder k c f kept → (p : Place) × (c ≡ control.Rounds p)
 in_rounds k (control.Rounds p) f kept stands = (p, refl)
 in_rounds k control.Silent f kept stands = absurd stands
@@ -104,36 +108,11 @@ frames_rise g h p f given at takes =
     let to : h ≡ guest_under (control.Rounds p) g f = takes.state ∙ ap (λ c. guest_under c g f) at in
     ap (λ (x : GuestState). x.device.frames) to ∙ rises_by g p f (is_ifc (message_of f))
 
--- ---- what stands behind the pass
-
--- A measure of entries of a loop whose controller is party k: a frame that goes over the last link counts for so much more there, and one
--- of a device that the last party took as one that is held.
-pub record IsMeasure (k : ℕ) (measure : Entry → ℕ) (more : ℕ) (holds : Option ℕ → ℕ) : Type 0 where
-  pub none : holds None ≡ 0
-  pub own_taken : (f : Frame) → measure (entry k f (outcome.Taken 0)) ≡ more
-  pub own_lost : (f : Frame) → measure (entry k f (outcome.Lost 0)) ≡ more
-  pub last_taken : (p : ℕ) (f : Frame) → 1 ≤ p → p < k → measure (entry p f (outcome.Taken k)) ≡ holds (Some p)
-  pub home_taken : (p : ℕ) (f : Frame) → 1 ≤ p → p < k → measure (entry p f (outcome.Taken 0)) ≡ holds (Some p) + more
-  pub home_lost : (p : ℕ) (f : Frame) → 1 ≤ p → p < k → measure (entry p f (outcome.Lost 0)) ≡ holds (Some p) + more
+-- ---- what goes out
 
 -- the entry of this frame behind the last link
 abbrev pub IsOut : Flight → Entry → Type 0
 IsOut f x = (x ≡ entry f.source f.sent (outcome.Taken 0)) ⊎ (x ≡ entry f.source f.sent (outcome.Lost 0))
-
-pub at_host : (f : Flight) → 1 ≤ f.source → ended_at f 0 ≡ entry f.source f.sent (outcome.Taken 0)
-at_host f some = ap (λ own. entry f.source f.sent (if own then outcome.Back f.now else outcome.Taken 0)) (ne_eqb f.source 0 (λ same. omega (arith, same, some)))
-
-pub at_party : (k : ℕ) (f : Flight) → f.source < k → ended_at f k ≡ entry f.source f.sent (outcome.Taken k)
-at_party k f within = ap (λ own. entry f.source f.sent (if own then outcome.Back f.now else outcome.Taken k)) (ne_eqb f.source k (λ same. omega (arith, same, within)))
-
-own_out : (k : ℕ) (measure : Entry → ℕ) (more : ℕ) (holds : Option ℕ → ℕ) (x : Entry) (f : Frame) → IsMeasure k measure more holds → IsOut (sourced k f) x → measure x ≡ more
-own_out k measure more holds x f is (inl taken) = ap measure taken ∙ is.own_taken f
-own_out k measure more holds x f is (inr lost) = ap measure lost ∙ is.own_lost f
-
-other_out : (k : ℕ) (measure : Entry → ℕ) (more : ℕ) (holds : Option ℕ → ℕ) (x : Entry) (h : Flight) → IsMeasure k measure more holds → 1 ≤ h.source → h.source < k → IsOut h x → measure x ≡ measure (ended_at h k) + more
-other_out k measure more holds x h is some within out =
-    let there = ap measure (at_party k h within) ∙ is.last_taken h.source h.sent some within in
-    ⊎_elim (λ taken. let on = ap measure taken ∙ is.home_taken h.source h.sent some within in omega (arith, on, there)) (λ lost. let on = ap measure lost ∙ is.home_lost h.source h.sent some within in omega (arith, on, there)) out
 
 module _ {M : Type 0} (r s : RingView M) where
   abbrev of_all : ℕ
@@ -182,18 +161,6 @@ module _ {M : Type 0} (r s : RingView M) where
     crossings = lost.0.crossings_are;
   }
 
-  -- By each measure the entries and what stands then come to those of the ring of the others, what is held there, what was kept before, and
-  -- the frame that went over the last link, if one did.
-  pub record LedEnds (own : BooksView) : Type 0 where
-    pub entries : List Entry
-    pub log : s.books.log ≡ r.books.log ++ entries
-    pub goes : Bool
-    pub crossings : s.books.crossings ≡ risen_by (cond goes 1 0) own.crossings
-    pub held : (x : Flight) → own.held ≡ Some x → (1 ≤ x.source) × (x.source < of_all)
-    pub summed : (measure : Entry → ℕ) (more : ℕ) (holds : Option ℕ → ℕ) → IsMeasure of_all measure more holds
-        → sum_by measure (entries ++ standing of_all s.books)
-        ≡ ((sum_by measure (turned_entries of_all own.log) + sum_by measure (entry_where of_all (option_map (turned_flight of_all) own.held))) + cond goes more 0) + sum_by measure (entry_where of_all r.books.kept)
-
 sum_put : (measure : Entry → ℕ) (es kept : List Entry) (x : Entry) → sum_by measure (es ++ (kept ++ x ∷ [])) ≡ (sum_by measure es + sum_by measure kept) + measure x
 sum_put measure es kept x = let all = sum_by-append measure es (kept ++ x ∷ []) in let more = sum_by_push measure kept x in omega (arith, all, more)
 
@@ -202,425 +169,486 @@ ends_by : (e : Entry) (es : List Entry) → (front : List Entry) × (last : Entr
 ends_by e [] = ([], e, refl)
 ends_by e (x ∷ es) = let more = ends_by x es in (e ∷ more.0, more.1, ap (λ es. e ∷ es) more.2)
 
-some_ends : (k : ℕ) (es : List Entry) → sum_by (home_at k) es ≡ 1 → (front : List Entry) × (last : Entry) × (es ≡ front ++ last ∷ [])
-some_ends k [] one = let clash : zero ≡ suc zero = one in cc
-some_ends k (e ∷ es) one = ends_by e es
+-- ---- past the last party
 
--- what came home to the ring of the others, and where
-own_sum : (k : ℕ) (measure : Entry → ℕ) (b : BooksView) (at : Flight) (own data_frame : Bool) → b.held ≡ None → at.source < k
-    → sum_by measure (turned_entries k (comes b at own data_frame).log) + sum_by measure (entry_where k (option_map (turned_flight k) (comes b at own data_frame).held))
-    ≡ sum_by measure (turned_entries k b.log) + measure (ended_at (turned_flight k at) k)
-own_sum k measure b at own data_frame none within = by own data_frame
-  where
-    logged : sum_by measure (turned_entries k (b.log ++ ended_at at 0 ∷ [])) ≡ sum_by measure (turned_entries k b.log) + measure (ended_at (turned_flight k at) k)
-    logged = ap (sum_by measure) (map-append (turned_entry k) b.log (ended_at at 0 ∷ [])) ∙ sum_by_push measure (turned_entries k b.log) (turned_entry k (ended_at at 0)) ∙ ap (λ e. sum_by measure (turned_entries k b.log) + measure e) (sym (ended_home k at within))
+-- What the last party, which leads, made of the trip t: these entries; whether a frame came to it, or was lost on the way there; and by each
+-- measure what is under way then counts for, with the entries, as much as before.
+pub record PastCounted (j : ℕ) (t : Trip) (kept : Option Flight) (g : GuestState) (u : LedTrip) (h : GuestState) : Type 0 where
+  pub entries : List Entry
+  pub log : u.trip.log ≡ t.log ++ entries
+  pub took : Bool
+  pub gone : Bool
+  pub crossings : u.trip.crossings ≡ risen_by (cond took 1 0 + cond gone 1 0) t.crossings
+  pub rises : h.device.frames ≡ risen_by (cond took 1 0) g.device.frames
+  pub from : (f : Flight) → u.trip.flight ≡ Some f → (1 ≤ f.source) × (f.source ≤ j + 1)
+  pub silent : u.trip.flight ≡ None → (u.kept ≡ kept) ⊎ (u.kept ≡ None)
+  pub counted : (measure : Entry → ℕ) (first before behind : Option Flight → ℕ) (lost here home : ℕ) → IsMeasure j measure first before behind lost here home
+      → ((cond took here 0 + cond gone lost 0) + before t.flight) + sum_by measure (entry_where (j + 1) kept)
+      ≡ (sum_by measure entries + behind u.trip.flight) + sum_by measure (entry_where (j + 1) u.kept)
 
-    by : (own data_frame : Bool) → sum_by measure (turned_entries k (comes b at own data_frame).log) + sum_by measure (entry_where k (option_map (turned_flight k) (comes b at own data_frame).held))
-        ≡ sum_by measure (turned_entries k b.log) + measure (ended_at (turned_flight k at) k)
-    by true data_frame =
-        let nothing : sum_by measure (entry_where k (option_map (turned_flight k) b.held)) ≡ 0 = ap (λ held. sum_by measure (entry_where k (option_map (turned_flight k) held))) none in
-        omega (arith, logged, nothing)
-    by false true = omega arith
-    by false false = omega (arith, logged)
+-- where a frame of its own goes out
+own_from : (j : ℕ) (x : Frame) (f : Flight) → Some (sourced (j + 1) x) ≡ Some f → (1 ≤ f.source) × (f.source ≤ j + 1)
+own_from j x f is = let same = ap (λ (f : Flight). f.source) (some_flight (sourced (j + 1) x) f is) in (omega (arith, same), omega (arith, same))
 
-own_crossings : (b : BooksView) (at : Flight) (own data_frame : Bool) → (comes b at own data_frame).crossings ≡ b.crossings
-own_crossings b at true data_frame = refl
-own_crossings b at false true = refl
-own_crossings b at false false = refl
+module _ (j n : ℕ) (log : List Entry) (g h : GuestState) where
+  past_none : (kept : Option Flight) → PastCounted j (trip n log None) kept g (led (trip n log None) kept) g
+  past_none kept = record {
+    entries = [];
+    log = sym (append-nil log);
+    took = false;
+    gone = false;
+    crossings = refl;
+    rises = refl;
+    from = λ f is. let clash = is in cc;
+    silent = λ none. inl refl;
+    counted = λ measure first before behind lost here home is. let a = is.none_before in let b = is.none_behind in omega (arith, a, b);
+  }
 
-own_held : (b : BooksView) (at x : Flight) (own data_frame : Bool) → (at.source == 0) ≡ own → b.held ≡ None → (comes b at own data_frame).held ≡ Some x → (1 ≤ at.source) × (at ≡ x)
-own_held b at x true data_frame test none is = let clash = sym none ∙ is in cc
-own_held b at x false true test none is = (strictly at.source 0 test (omega arith), ap (λ o. elim o [ Some f ↦ f | None ↦ at ]) is)
-own_held b at x false false test none is = let clash = is in cc
+  module _ (f : Flight) (on : f.source ≤ j + 1) where
+    past_lost : (kept : Option Flight) → PastCounted j (trip n log (Some f)) kept g (led (trip (risen n) (log ++ lost_at f (j + 1) ∷ []) None) kept) g
+    past_lost kept = record {
+      entries = lost_at f (j + 1) ∷ [];
+      log = refl;
+      took = false;
+      gone = true;
+      crossings = refl;
+      rises = refl;
+      from = λ f is. let clash = is in cc;
+      silent = λ none. inl refl;
+      counted = λ measure first before behind lost here home is. let away = is.lost_there f on in let none = is.none_behind in omega (arith, away, none);
+    }
 
--- ---- the pass
+    module _ (at : Flight) (same : at.source ≡ f.source) (rises : h.device.frames ≡ risen g.device.frames) where
+      ended : (measure : Entry → ℕ) (first before behind : Option Flight → ℕ) (lost here home : ℕ) → IsMeasure j measure first before behind lost here home
+          → measure (ended_at at (j + 1)) ≡ before (Some f) + here
+      ended measure first before behind lost here home is = let there = is.ended_there at (omega (arith, same, on)) in let weight = is.same f at same in omega (arith, there, weight)
 
-module _ {M : Type 0} (r s : RingView M) (answer : Arrival) (behind : LedTrip) (own : BooksView) (books : s.books ≡ lent_home (length (devices_of r)) (books_led r.books behind) behind.trip.flight) (answer_is : answer ≡ arrived (arriving r.books.plan behind.trip.crossings behind.trip.flight)) where
-  abbrev k_at : ℕ
-  k_at = length (devices_of r)
-
-  -- nothing came to the last party
-  nothing_ends : behind.trip.flight ≡ None → behind.kept ≡ r.books.kept → behind.trip.log ≡ r.books.log ++ turned_entries k_at own.log → behind.trip.crossings ≡ own.crossings → own.held ≡ None → sum_by (home_at k_at) own.log ≡ 1 → LedEnds r s own
-  nothing_ends flight keeps log crossings none one =
-      let split = some_ends k_at own.log one in
-      let front = turned_entries k_at split.0 in
-      let last = turned_entry k_at split.1 in
-      let own_log : turned_entries k_at own.log ≡ front ++ last ∷ [] = ap (turned_entries k_at) split.2 ∙ map-append (turned_entry k_at) split.0 (split.1 ∷ []) in
-      let ends = last_home r s answer behind front r.books.kept books answer_is keeps last flight (log ∙ ap (λ es. r.books.log ++ es) own_log) in
-      let put = not_put r s answer front (last ∷ []) r.books.kept behind.trip.crossings ends in
-      record {
-        entries = put.entries;
-        log = put.log;
-        goes = false;
-        crossings = ends.crossings_are ∙ crossings;
-        held = λ x is. let clash = sym none ∙ is in cc;
-        summed = λ measure more holds is.
-            let all = ap (sum_by measure) put.all ∙ sum_put measure front (entry_where k_at r.books.kept) last in
-            let its_log = ap (sum_by measure) own_log ∙ sum_by_push measure front last in
-            let nothing : sum_by measure (entry_where k_at (option_map (turned_flight k_at) own.held)) ≡ 0 = ap (λ held. sum_by measure (entry_where k_at (option_map (turned_flight k_at) held))) none in
-            omega (arith, all, its_log, nothing);
+      past_kept : (x : Frame) → PastCounted j (trip n log (Some f)) None g (led (trip (risen n) log (Some (sourced (j + 1) x))) (Some at)) h
+      past_kept x = record {
+        entries = [];
+        log = sym (append-nil log);
+        took = true;
+        gone = false;
+        crossings = refl;
+        rises = rises;
+        from = own_from j x;
+        silent = λ none. let clash = none in cc;
+        counted = λ measure first before behind lost here home is.
+            let there = ended measure first before behind lost here home is in let own = is.own x in omega (arith, there, own);
       }
 
-  -- this frame came, which it answered so
-  module _ (b : BooksView) (at : Flight) (count : ℕ) (entries : List Entry) (within : at.source < k_at) (free : b.held ≡ None) (own_is : own ≡ comes (record b { crossings = count; log = entries }) at (at.source == 0) (is_data at.now)) where
-    abbrev b_at : BooksView
-    b_at = record b { crossings = count; log = entries }
+      past_sent : (kept : Option Flight) (x : Frame) → PastCounted j (trip n log (Some f)) kept g (led (trip (risen n) (log ++ ended_at at (j + 1) ∷ []) (Some (sourced (j + 1) x))) kept) h
+      past_sent kept x = record {
+        entries = ended_at at (j + 1) ∷ [];
+        log = refl;
+        took = true;
+        gone = false;
+        crossings = refl;
+        rises = rises;
+        from = own_from j x;
+        silent = λ none. inl refl;
+        counted = λ measure first before behind lost here home is.
+            let there = ended measure first before behind lost here home is in let own = is.own x in omega (arith, there, own);
+      }
 
-    abbrev es_at : List Entry
-    es_at = turned_entries k_at entries
+      past_stopped : (kept : Option Flight) → PastCounted j (trip n log (Some f)) kept g (led (trip (risen n) (log ++ ended_at at (j + 1) ∷ []) None) kept) h
+      past_stopped kept = record {
+        entries = ended_at at (j + 1) ∷ [];
+        log = refl;
+        took = true;
+        gone = false;
+        crossings = refl;
+        rises = rises;
+        from = λ f is. let clash = is in cc;
+        silent = λ none. inl refl;
+        counted = λ measure first before behind lost here home is.
+            let there = ended measure first before behind lost here home is in let none = is.none_behind in omega (arith, there, none);
+      }
 
-    abbrev e_at : Entry
-    e_at = ended_at (turned_flight k_at at) k_at
+      past_relayed : (kept : Option Flight) → ((y : Flight) → kept ≡ Some y → (1 ≤ y.source) × (y.source ≤ j)) → PastCounted j (trip n log (Some f)) kept g (led (trip (risen n) (log ++ ended_at at (j + 1) ∷ []) kept) None) h
+      past_relayed kept there = record {
+        entries = ended_at at (j + 1) ∷ [];
+        log = refl;
+        took = true;
+        gone = false;
+        crossings = refl;
+        rises = rises;
+        from = λ y is. let known = there y is in (known.0, (let low = known.1 in omega (arith, low)));
+        silent = λ none. inr refl;
+        counted = λ measure first before behind lost here home is.
+            let here_is = ended measure first before behind lost here home is in
+            let goes = by measure first before behind lost here home is kept there in
+            omega (arith, here_is, goes);
+      }
+        where
+          by : (measure : Entry → ℕ) (first before behind : Option Flight → ℕ) (lost here home : ℕ) → IsMeasure j measure first before behind lost here home
+              → (kept : Option Flight) → ((y : Flight) → kept ≡ Some y → (1 ≤ y.source) × (y.source ≤ j)) → behind kept ≡ sum_by measure (entry_where (j + 1) kept)
+          by measure first before behind lost here home is None there = is.none_behind
+          by measure first before behind lost here home is (Some y) there = let goes = is.goes_on y (there y refl).1 in omega (arith, goes)
 
-    crossed : own.crossings ≡ count
-    crossed = ap (λ (b : BooksView). b.crossings) own_is ∙ own_crossings b_at at (at.source == 0) (is_data at.now)
+      past_sends : (kept : Option Flight) (x : Frame) (bytes : Bool) → kept ≡ None → PastCounted j (trip n log (Some f)) kept g (led_sends (risen n) log (j + 1) at bytes kept x) h
+      past_sends kept x true none = subst (λ kept. PastCounted j (trip n log (Some f)) kept g (led_sends (risen n) log (j + 1) at true kept x) h) (sym none) (past_kept x)
+      past_sends kept x false none = past_sent kept x
 
-    held_there : (x : Flight) → own.held ≡ Some x → (1 ≤ x.source) × (x.source < k_at)
-    held_there x is =
-        let known = own_held b_at at x (at.source == 0) (is_data at.now) refl free (sym (ap (λ (b : BooksView). b.held) own_is) ∙ is) in
-        let same = ap (λ (f : Flight). f.source) known.1 in
-        (omega (arith, same, known.0), omega (arith, same, within))
+      past_answered : (kept : Option Flight) (out : GuestOut) → ((x : Frame) → out ≡ reply.Pass x → ⊥) → ((x : Frame) → out ≡ reply.Source x → kept ≡ None)
+          → ((y : Flight) → kept ≡ Some y → (1 ≤ y.source) × (y.source ≤ j)) → PastCounted j (trip n log (Some f)) kept g (led_answers (risen n) log (j + 1) at kept out) h
+      past_answered kept (reply.Pass x) passes sends there = absurd (passes x refl)
+      past_answered kept (reply.Source x) passes sends there = past_sends kept x (is_data at.now) (sends x refl)
+      past_answered kept (reply.Relay x) passes sends there = past_relayed kept there
+      past_answered kept reply.Stop passes sends there = past_stopped kept
 
-    sum_own : (measure : Entry → ℕ) → sum_by measure (turned_entries k_at own.log) + sum_by measure (entry_where k_at (option_map (turned_flight k_at) own.held)) ≡ sum_by measure es_at + measure e_at
-    sum_own measure = ap (λ (b : BooksView). sum_by measure (turned_entries k_at b.log) + sum_by measure (entry_where k_at (option_map (turned_flight k_at) b.held))) own_is ∙ own_sum k_at measure b_at at (at.source == 0) (is_data at.now) free within
+-- ---- over the last link
 
-    ended_log : behind.trip.log ≡ (r.books.log ++ es_at) ++ e_at ∷ [] → behind.trip.log ≡ r.books.log ++ (es_at ++ e_at ∷ [])
-    ended_log log = log ∙ append_assoc r.books.log es_at (e_at ∷ [])
+-- the entries, and what stands then, by each measure
+pub record HomeCounted {M : Type 0} (r s : RingView M) (behind : LedTrip) (entries : List Entry) (j : ℕ) : Type 0 where
+  pub added : List Entry
+  pub log_is : s.books.log ≡ r.books.log ++ added
+  pub goes : Bool
+  pub crossings : s.books.crossings ≡ risen_by (cond goes 1 0) behind.trip.crossings
+  pub counted : (measure : Entry → ℕ) (first before far : Option Flight → ℕ) (lost here home : ℕ) → IsMeasure j measure first before far lost here home
+      → sum_by measure (added ++ standing (length (devices_of r)) s.books) ≡ ((sum_by measure entries + far behind.trip.flight) + cond goes home 0) + sum_by measure (entry_where (length (devices_of r)) behind.kept)
 
-    -- a frame of its own, or the one that was kept, goes out
-    out_ends : (es : List Entry) (keeps : Option Flight) (f : Flight) → 1 ≤ f.source → behind.kept ≡ keeps → behind.trip.flight ≡ Some f → behind.trip.log ≡ r.books.log ++ es → behind.trip.crossings ≡ count
-        → ((measure : Entry → ℕ) (more : ℕ) (holds : Option ℕ → ℕ) (x : Entry) → IsMeasure k_at measure more holds → IsOut f x → (sum_by measure es + sum_by measure (entry_where k_at keeps)) + measure x ≡ ((sum_by measure es_at + measure e_at) + more) + sum_by measure (entry_where k_at r.books.kept))
-        → LedEnds r s own
-    out_ends es keeps f some kept flight log crossings sums =
-        let went = went_out r s answer es keeps f behind.trip.crossings some (goes_home r s answer behind es keeps books answer_is kept f flight log) in
-        record {
-          entries = went.put.entries;
-          log = went.put.log;
-          goes = true;
-          crossings = went.crossings ∙ ap risen (crossings ∙ sym crossed);
-          held = held_there;
-          summed = λ measure more holds is.
-              let all = ap (sum_by measure) went.put.all ∙ sum_put measure es (entry_where k_at keeps) went.last in
-              let known = sums measure more holds went.last is went.is_out in
-              let its_own = sum_own measure in
-              omega (arith, all, known, its_own);
-        }
+-- Nothing came home to a host that controls, and nothing stands.
+pub record EndsAlone {M : Type 0} (r s : RingView M) (behind : LedTrip) : Type 0 where
+  pub none : behind.trip.flight ≡ None
+  pub unkept : behind.kept ≡ None
+  pub unlent : r.books.lent ≡ None
+  pub books : s.books ≡ record (books_led r.books behind) { held = None }
 
-    -- nothing goes out
-    silent_ends : (es last : List Entry) (keeps : Option Flight) → StandsNot r es keeps last behind.trip.crossings answer s → behind.trip.crossings ≡ count
-        → ((measure : Entry → ℕ) → sum_by measure (es ++ (entry_where k_at keeps ++ last)) ≡ (sum_by measure es_at + measure e_at) + sum_by measure (entry_where k_at r.books.kept)) → LedEnds r s own
-    silent_ends es last keeps ends crossings sums =
-        let put = not_put r s answer es last keeps behind.trip.crossings ends in
-        record {
-          entries = put.entries;
-          log = put.log;
-          goes = false;
-          crossings = ends.crossings_are ∙ crossings ∙ sym crossed;
-          held = held_there;
-          summed = λ measure more holds is.
-              let all = ap (sum_by measure) put.all in
-              let known = sums measure in
-              let its_own = sum_own measure in
-              omega (arith, all, known, its_own);
-        }
+alone_counted : {M : Type 0} (r s : RingView M) (behind : LedTrip) (entries : List Entry) (j : ℕ) → behind.trip.log ≡ r.books.log ++ entries → EndsAlone r s behind → HomeCounted r s behind entries j
+alone_counted r s behind entries j log ends =
+    let kept : s.books.kept ≡ None = ap (λ (b : BooksView). b.kept) ends.books ∙ ends.unkept in
+    let lent : s.books.lent ≡ None = ap (λ (b : BooksView). b.lent) ends.books ∙ ends.unlent in
+    record {
+      added = entries;
+      log_is = ap (λ (b : BooksView). b.log) ends.books ∙ log;
+      goes = false;
+      crossings = ap (λ (b : BooksView). b.crossings) ends.books;
+      counted = λ measure first before far lost here home known.
+          let all = ap₂ (λ kept lent. sum_by measure (entries ++ (entry_where (length (devices_of r)) kept ++ entry_where 0 lent))) kept lent ∙ ap (sum_by measure) (append-nil entries) in
+          let none = ap far ends.none ∙ known.none_behind in
+          let unkept : sum_by measure (entry_where (length (devices_of r)) behind.kept) ≡ 0 = ap (λ kept. sum_by measure (entry_where (length (devices_of r)) kept)) ends.unkept in
+          omega (arith, all, none, unkept);
+    }
 
-    sends_ends : (x : Frame) (data_frame : Bool) → r.books.kept ≡ None → behind ≡ led_sends count (r.books.log ++ es_at) k_at (turned_flight k_at at) data_frame r.books.kept x → LedEnds r s own
-    sends_ends x true unkept is =
-        out_ends es_at (Some (turned_flight k_at at)) (sourced k_at x) (omega (arith, within)) (ap (λ (l : LedTrip). l.kept) is) (ap (λ (l : LedTrip). l.trip.flight) is) (ap (λ (l : LedTrip). l.trip.log) is) (ap (λ (l : LedTrip). l.trip.crossings) is)
-        (λ measure more holds y known out.
-        let last = own_out k_at measure more holds y x known out in
-        let none : sum_by measure (entry_where k_at r.books.kept) ≡ 0 = ap (λ kept. sum_by measure (entry_where k_at kept)) unkept in
-        omega (arith, last, none))
-    sends_ends x false unkept is =
-        out_ends (es_at ++ e_at ∷ []) r.books.kept (sourced k_at x) (omega (arith, within)) (ap (λ (l : LedTrip). l.kept) is) (ap (λ (l : LedTrip). l.trip.flight) is) (ended_log (ap (λ (l : LedTrip). l.trip.log) is)) (ap (λ (l : LedTrip). l.trip.crossings) is)
-        (λ measure more holds y known out.
-        let last = own_out k_at measure more holds y x known out in
-        let sum = sum_by_push measure es_at e_at in
-        omega (arith, last, sum))
-
-    relay_ends : (kept : Option Flight) → r.books.kept ≡ kept → ((h : Flight) → r.books.kept ≡ Some h → (1 ≤ h.source) × (h.source < k_at)) → behind ≡ led (trip count ((r.books.log ++ es_at) ++ e_at ∷ []) r.books.kept) None → LedEnds r s own
-    relay_ends None kept_is from is =
-        silent_ends (es_at ++ e_at ∷ []) [] None
-        (silent_home r s answer behind (es_at ++ e_at ∷ []) None books answer_is (ap (λ (l : LedTrip). l.kept) is) refl (ap (λ (l : LedTrip). l.trip.flight) is ∙ kept_is) (ended_log (ap (λ (l : LedTrip). l.trip.log) is)))
-        (ap (λ (l : LedTrip). l.trip.crossings) is)
-        (λ measure.
-        let none : sum_by measure (entry_where k_at r.books.kept) ≡ 0 = ap (λ kept. sum_by measure (entry_where k_at kept)) kept_is in
-        let nil = ap (sum_by measure) (append-nil (es_at ++ e_at ∷ [])) in
-        let sum = sum_by_push measure es_at e_at in
-        omega (arith, none, nil, sum))
-    relay_ends (Some h) kept_is from is =
-        let there = from h kept_is in
-        out_ends (es_at ++ e_at ∷ []) None h there.0 (ap (λ (l : LedTrip). l.kept) is) (ap (λ (l : LedTrip). l.trip.flight) is ∙ kept_is) (ended_log (ap (λ (l : LedTrip). l.trip.log) is)) (ap (λ (l : LedTrip). l.trip.crossings) is)
-        (λ measure more holds y known out.
-        let last = other_out k_at measure more holds y h known there.0 there.1 out in
-        let one : sum_by measure (entry_where k_at r.books.kept) ≡ measure (ended_at h k_at) = ap (λ kept. sum_by measure (entry_where k_at kept)) kept_is ∙ omega arith in
-        let sum = sum_by_push measure es_at e_at in
-        omega (arith, last, one, sum))
-
-    came_ends : (given : GuestOut) → ((f : Frame) → given ≡ reply.Pass f → ⊥) → ((x : Frame) → given ≡ reply.Source x → r.books.kept ≡ None) → ((h : Flight) → r.books.kept ≡ Some h → (1 ≤ h.source) × (h.source < k_at))
-        → behind ≡ led_answers count (r.books.log ++ es_at) k_at (turned_flight k_at at) r.books.kept given → LedEnds r s own
-    came_ends (reply.Pass f) passes sends from is = absurd (passes f refl)
-    came_ends (reply.Source x) passes sends from is = sends_ends x (is_data at.now) (sends x refl) is
-    came_ends (reply.Relay g) passes sends from is = relay_ends r.books.kept refl from is
-    came_ends reply.Stop passes sends from is =
-        silent_ends es_at (e_at ∷ []) r.books.kept
-        (last_home r s answer behind es_at r.books.kept books answer_is (ap (λ (l : LedTrip). l.kept) is) e_at (ap (λ (l : LedTrip). l.trip.flight) is) (ended_log (ap (λ (l : LedTrip). l.trip.log) is)))
-        (ap (λ (l : LedTrip). l.trip.crossings) is)
-        (λ measure. let sum = sum_put measure es_at (entry_where k_at r.books.kept) e_at in omega (arith, sum))
-
--- ---- the measures
-
-abbrev some_one : Option ℕ → ℕ
-some_one None = 0
-some_one (Some p) = 1
-
-holding_one : (held : Option Flight) → some_one (holding held) ≡ standing_one held
-holding_one None = refl
-holding_one (Some f) = refl
-
-not_host : (p : ℕ) → (suc p == 0) ≡ false
-not_host p = ne_eqb (suc p) 0 (λ same. omega (arith, same))
-
-sending_one : (f : Flight) → some_one (device_sending f) ≡ stood f.source
-sending_one f = by f.source
-  where
-    by : (p : ℕ) → some_one (if p == 0 then None else Some p) ≡ stood p
-    by zero = refl
-    by (suc p) = ap (λ own. some_one (if own then None else Some (suc p))) (not_host p)
-
-links_measure : (n k : ℕ) → k ≡ suc n → IsMeasure k (links_of k) 1 (held_links n)
-links_measure n k size = record {
-  none = refl;
-  own_taken = λ f. own_taken-links k f;
-  own_lost = λ f. own_lost-links k f;
-  last_taken = λ p f some within. last_taken-links n k p f size some (omega (arith, size, within));
-  home_taken = λ p f some within. home_taken-links n k p f size some (omega (arith, size, within));
-  home_lost = λ p f some within. home_lost-links n k p f size some (omega (arith, size, within));
-}
-
-came_measure : (n k q : ℕ) → k ≡ suc n → 1 ≤ q → q ≤ n → IsMeasure k (λ e. cond (brings_to k q e) 1 0) 0 (held_passes q)
-came_measure n k q size from on = record {
-  none = refl;
-  own_taken = λ f. own_taken-passes k q f from (omega (arith, size, on));
-  own_lost = λ f. own_lost-passes k q f from (omega (arith, size, on));
-  last_taken = λ p f some within. last_taken-passes n k q p f size from on some (omega (arith, size, within));
-  home_taken = λ p f some within. let known = home_taken-passes n k q p f size from on some (omega (arith, size, within)) in omega (arith, known);
-  home_lost = λ p f some within. let known = home_lost-passes n k q p f size from on some (omega (arith, size, within)) in omega (arith, known);
-}
-
-last_measure : (k : ℕ) → 1 ≤ k → IsMeasure k (λ e. cond (brings_to k k e) 1 0) 0 some_one
-last_measure k from = record {
-  none = refl;
-  own_taken = λ f. ap {B = ℕ} (λ b. cond b 1 0) (own_taken-last k f from);
-  own_lost = λ f. ap {B = ℕ} (λ b. cond b 1 0) (own_lost-last k f);
-  last_taken = λ p f some within. ap {B = ℕ} (λ b. cond b 1 0) (last_taken-last k p f);
-  home_taken = λ p f some within. ap {B = ℕ} (λ b. cond b 1 0) (home_taken-last k p f within);
-  home_lost = λ p f some within. ap {B = ℕ} (λ b. cond b 1 0) (home_lost-last k p f within);
-}
-
--- what stood at the host
-stood_sum : (k : ℕ) (measure : Entry → ℕ) (more : ℕ) (holds : Option ℕ → ℕ) (f : Flight) → IsMeasure k measure more holds → 1 ≤ k → f.source < k → measure (ended_at (turned_flight k f) 0) ≡ holds (device_sending f) + more
-stood_sum k measure more holds f is from within = by f.source within
-  where
-    by : (p : ℕ) → p < k → measure (ended_at (turned_flight k (record f { source = p })) 0) ≡ holds (if p == 0 then None else Some p) + more
-    by zero within = let known = ap measure (at_host (turned_flight k (record f { source = 0 })) from) ∙ is.own_taken f.sent in let none = is.none in omega (arith, known, none)
-    by (suc p) within =
-        ap measure (at_host (turned_flight k (record f { source = suc p })) (omega arith)) ∙ is.home_taken (suc p) f.sent (omega arith) within
-        ∙ sym (ap (λ own. holds (if own then None else Some (suc p)) + more) (not_host p))
-
--- what is held
-held_sum : (k : ℕ) (measure : Entry → ℕ) (more : ℕ) (holds : Option ℕ → ℕ) (held : Option Flight) → IsMeasure k measure more holds → ((x : Flight) → held ≡ Some x → (1 ≤ x.source) × (x.source < k))
-    → sum_by measure (entry_where k (option_map (turned_flight k) held)) ≡ holds (holding held)
-held_sum k measure more holds None is from = sym is.none
-held_sum k measure more holds (Some x) is from = one ∙ by x.source (from x refl).0 (from x refl).1
-  where
-    one : sum_by measure (ended_at (turned_flight k x) k ∷ []) ≡ measure (ended_at (turned_flight k x) k)
-    one = omega arith
-
-    by : (p : ℕ) → 1 ≤ p → p < k → measure (ended_at (turned_flight k (record x { source = p })) k) ≡ holds (Some p)
-    by zero some within = absurd (omega (arith, some))
-    by (suc p) some within = ap measure (at_party k (turned_flight k (record x { source = suc p })) within) ∙ is.last_taken (suc p) x.sent some within
-
--- the entries of the smaller ring that came to the host of the loop
-turned_home : (k : ℕ) (es : List Entry) → count_by (brings_to k 0) (turned_entries k es) ≡ sum_by (home_at k) es
-turned_home k [] = refl
-turned_home k (e ∷ es) = sum_by-cons (λ x. cond (brings_to k 0 x) 1 0) (turned_entry k e) (turned_entries k es) ∙ ap (λ n. home_at k e + n) (turned_home k es) ∙ sym (sum_by-cons (home_at k) e es)
-
-no_more : (goes : Bool) → ◌≡◌ {A = ℕ} (cond goes 0 0) 0
-no_more true = refl
-no_more false = refl
-
--- so many then, where the smaller ring has them
-balance : {M : Type 0} (r s : RingView M) (own : BooksView) (f : Flight) (ends : LedEnds r s own) (measure : Entry → ℕ) (more : ℕ) (holds : Option ℕ → ℕ) (n had : ℕ) → IsMeasure (length (devices_of r)) measure more holds → f.source < length (devices_of r)
-    → (lent : Option Flight) → lent ≡ Some (turned_flight (length (devices_of r)) f)
-    → n + holds (device_sending f) ≡ had + holds (holding own.held) → sum_by measure (turned_entries (length (devices_of r)) own.log) ≡ had + more
-    → (n + cond ends.goes more 0) + sum_by measure (entry_where (length (devices_of r)) r.books.kept ++ entry_where 0 lent) ≡ sum_by measure (ends.entries ++ standing (length (devices_of r)) s.books)
-balance r s own f ends measure more holds n had is within lent lent_is counted turned_sum =
-    let k = length (devices_of r) in
-    let before = sum_by-append measure (entry_where k r.books.kept) (entry_where 0 lent) in
-    let at_host : sum_by measure (entry_where 0 lent) ≡ measure (ended_at (turned_flight k f) 0) = ap (λ lent. sum_by measure (entry_where 0 lent)) lent_is ∙ omega arith in
-    let stands = stood_sum k measure more holds f is (omega (arith, within)) within in
-    let held = held_sum k measure more holds own.held is ends.held in
-    let all = ends.summed measure more holds is in
-    omega (arith, before, at_host, stands, held, all, counted, turned_sum)
-
--- ---- the devices
-
-since_from : (n k : ℕ) (before after : List Entry) (sending : Option ℕ) (entries : List Entry) (held : Option ℕ) (j : ℕ) (ds es : List DeviceState) (d e : DeviceState)
-    → ((q c : ℕ) → j < q → q ≤ j + length ds → c + held_passes q sending ≡ passes_so_far n q entries held → c + count_by (brings_to k q) before ≡ count_by (brings_to k q) after)
-    → TookSince k before after (j + length ds + 1) d e → AllTook n sending entries held j ds es → AllTookSince k before after j (ds ++ d ∷ []) (es ++ e ∷ [])
-since_from n k before after sending entries held j [] [] d e same last took = (subst (λ j. TookSince k before after (j + 1) d e) (omega arith) last, tt)
-since_from n k before after sending entries held j (x ∷ ds) (y ∷ es) d e same last took = (
-  (took.0.0, took.0.1, same (j + 1) took.0.0 (omega arith) (omega arith) took.0.2),
-  since_from n k before after sending entries held (j + 1) ds es d e (λ q c low high. same q c (omega (arith, low)) (omega (arith, high))) (subst (λ j. TookSince k before after (j + 1) d e) (omega arith) last) took.1,
-)
-since_from n k before after sending entries held j [] (y ∷ es) d e same last took = absurd took
-since_from n k before after sending entries held j (x ∷ ds) [] d e same last took = absurd took
-
--- ---- what a pass adds to the counts
-
-module _ {M : Type 0} (view : M → MediumView) (r s : RingView M) (f : Flight) (answer : Arrival) (led_before : IsLed r) (led_after : IsLed s)
-    (lent : r.books.lent ≡ Some (turned_flight (length (devices_of r)) f)) (within : f.source < length (devices_of r)) (two : Halves view (going_on r) None f answer s)
-    (ready : IsReady f (devices_of (ring_before_last two.boxed (books_anew None r.books) r)))
-    (awaited : (h : Flight) → r.books.kept ≡ Some h → IsAwaited 0 h (devices_of (ring_before_last two.boxed (books_anew None r.books) r))) where
+module _ {M : Type 0} (r s : RingView M) (answer : Arrival) (behind : LedTrip) (entries : List Entry) (books : s.books ≡ lent_home (length (devices_of r)) (books_led r.books behind) behind.trip.flight)
+    (answer_is : answer ≡ arrived (arriving r.books.plan behind.trip.crossings behind.trip.flight)) (log : behind.trip.log ≡ r.books.log ++ entries) where
   abbrev loop : ℕ
   loop = length (devices_of r)
 
-  abbrev rest : RingView M
-  rest = ring_before_last two.boxed (books_anew None (going_on r).books) (going_on r)
+  out_counted : (j : ℕ) (f : Flight) → behind.trip.flight ≡ Some f → 1 ≤ f.source → f.source ≤ j + 1 → HomeCounted r s behind entries j
+  out_counted j f flight some on =
+      let went = went_out r s answer entries behind.kept f behind.trip.crossings some (goes_home r s answer behind entries behind.kept books answer_is refl f flight log) in
+      record {
+        added = went.put.entries;
+        log_is = went.put.log;
+        goes = true;
+        crossings = went.crossings;
+        counted = λ measure first before far lost here home is.
+            let all = ap (sum_by measure) went.put.all ∙ sum_put measure entries (entry_where loop behind.kept) went.last in
+            let there : measure went.last ≡ far (Some f) + home =
+            ⊎_elim (λ taken. ap measure (taken ∙ sym (at_host f some)) ∙ is.ended_home f some on) (λ gone. ap measure gone ∙ is.lost_home f on) went.is_out in
+            let at = ap far flight in
+            omega (arith, all, there, at);
+      }
 
-  abbrev rest_then : RingView M
-  rest_then = ring_before_last two.boxed_then two.own s
+  silent_counted : (j : ℕ) → behind.trip.flight ≡ None → ((y : Flight) → behind.kept ≡ Some y → (front : List Entry) × (last : Entry) × (entries ≡ front ++ last ∷ [])) → HomeCounted r s behind entries j
+  silent_counted j flight some = by behind.kept refl
+    where
+      by : (kept : Option Flight) → behind.kept ≡ kept → HomeCounted r s behind entries j
+      by None is =
+          let put = not_put r s answer entries [] None behind.trip.crossings (silent_home r s answer behind entries None books answer_is is refl flight log) in
+          record {
+            added = put.entries;
+            log_is = put.log;
+            goes = false;
+            crossings = (silent_home r s answer behind entries None books answer_is is refl flight log).crossings_are;
+            counted = λ measure first before far lost here home known.
+                let all = ap (sum_by measure) (put.all ∙ append-nil entries) in
+                let none = ap far flight ∙ known.none_behind in
+                let kept : sum_by measure (entry_where loop behind.kept) ≡ 0 = ap (λ kept. sum_by measure (entry_where loop kept)) is in
+                omega (arith, all, none, kept);
+          }
+      by (Some y) is =
+          let split = some y is in
+          let at : behind.trip.log ≡ r.books.log ++ (split.0 ++ split.1 ∷ []) = log ∙ ap (λ es. r.books.log ++ es) split.2 in
+          let ends = last_home r s answer behind split.0 behind.kept books answer_is refl split.1 flight at in
+          let put = not_put r s answer split.0 (split.1 ∷ []) behind.kept behind.trip.crossings ends in
+          record {
+            added = put.entries;
+            log_is = put.log;
+            goes = false;
+            crossings = ends.crossings_are;
+            counted = λ measure first before far lost here home known.
+                let all = ap (sum_by measure) put.all ∙ sum_put measure split.0 (entry_where loop behind.kept) split.1 in
+                let sum = ap (sum_by measure) split.2 ∙ sum_by_push measure split.0 split.1 in
+                let none = ap far flight ∙ known.none_behind in
+                omega (arith, all, sum, none);
+          }
 
-  abbrev few : ℕ
-  few = length (devices_of rest)
+none_more : (b : Bool) → ◌≡◌ {A = ℕ} (cond b 0 0) 0
+none_more true = refl
+none_more false = refl
 
-  devices_before : devices_of r ≡ devices_of rest ++ two.g.device ∷ []
-  devices_before = ap (λ after. r.before ++ device_of r.drive.state ∷ after) two.after ∙ sym (append_assoc r.before (device_of r.drive.state ∷ two.boxed) (two.g.device ∷ []))
+-- ---- the devices
 
-  devices_after : devices_of s ≡ devices_of rest_then ++ two.h.device ∷ []
-  devices_after = ap (λ after. s.before ++ device_of s.drive.state ∷ after) two.after_then ∙ sym (append_assoc s.before (device_of s.drive.state ∷ two.boxed_then) (two.h.device ∷ []))
+since_framed : (k : ℕ) (b a : ℕ → ℕ) (before after : List Entry) (j : ℕ) (ds es : List DeviceState) (d e : DeviceState)
+    → ((q c : ℕ) → j < q → q ≤ j + length ds → c + b q ≡ a q → c + count_by (brings_to k q) before ≡ count_by (brings_to k q) after)
+    → TookSince k before after (j + length ds + 1) d e → Framed b a j ds es → AllTookSince k before after j (ds ++ d ∷ []) (es ++ e ∷ [])
+since_framed k b a before after j [] [] d e same last framed = (subst (λ j. TookSince k before after (j + 1) d e) (omega arith) last, tt)
+since_framed k b a before after j (x ∷ ds) (y ∷ es) d e same last framed = (
+  (framed.0.0, framed.0.1, same (j + 1) framed.0.0 (omega arith) (omega arith) framed.0.2),
+  since_framed k b a before after (j + 1) ds es d e (λ q c low high. same q c (omega (arith, low)) (omega (arith, high))) (subst (λ j. TookSince k before after (j + 1) d e) (omega arith) last) framed.1,
+)
+since_framed k b a before after j [] (y ∷ es) d e same last framed = absurd framed
+since_framed k b a before after j (x ∷ ds) [] d e same last framed = absurd framed
 
-  loop_is : loop ≡ suc few
-  loop_is = let all = ap length devices_before in let sum = length-append (devices_of rest) (two.g.device ∷ []) in omega (arith, all, sum)
+-- ---- the frame that stands at the host
+
+turned_same : (k p : ℕ) → 1 ≤ p → turned k p ≡ p
+turned_same k zero some = absurd (omega (arith, some))
+turned_same k (suc p) some = refl
+
+-- it is the second controller's own, or awaited by its source
+pub turned_stands : (k : ℕ) (f : Flight) (ds : List DeviceState) → k ≡ length ds + 1 → IsReady f ds → Stands (length ds + 1) 0 (Some (turned_flight k f)) ds × (1 ≤ (turned_flight k f).source) × ((turned_flight k f).source ≤ length ds + 1)
+turned_stands k f ds size (inl host) =
+    let is : turned k f.source ≡ k = ap (turned k) host in
+    (inr (inr (omega (arith, is, size), omega (arith, is, size))), omega (arith, is, size), omega (arith, is, size))
+turned_stands k f ds size (inr awaited) =
+    let is : turned k f.source ≡ f.source = turned_same k f.source (omega (arith, awaited.there)) in (
+      inr (inl (record { place = awaited.place; there = is ∙ awaited.there; within = awaited.within; data_frame = awaited.data_frame; own = awaited.own; waits = awaited.waits })),
+      omega (arith, is, awaited.there),
+      omega (arith, is, awaited.there, awaited.within),
+    )
+
+-- ---- what a round adds to the counts
+
+-- what the last party, which is then in the state h, answers: no frame that it passes, one of its own only where it keeps none
+pub record LastAnswers (kept : Option Flight) (g h : GuestState) (out : GuestOut) : Type 0 where
+  pub no_passing : (x : Frame) → out ≡ reply.Pass x → ⊥
+  pub unkept : (x : Frame) → out ≡ reply.Source x → kept ≡ None
+  pub rises : h.device.frames ≡ risen g.device.frames
+
+-- with this frame at the host, or none
+abbrev pub standing_as : {M : Type 0} → Option Flight → RingView M → RingView M
+standing_as o r = record r { books = record r.books { lent = o } }
+
+-- the frame that stands at the host goes on, or the host's own goes out on a ring on which nothing stands
+abbrev pub Starts : BooksView → ℕ → Flight → Type 0
+Starts b few f = ((1 ≤ f.source) × (f.source ≤ few + 1) × (b.lent ≡ Some f)) ⊎ ((f.source ≡ 0) × (b.lent ≡ None) × (b.kept ≡ None))
+
+module _ {M : Type 0} (view : M → MediumView) (o : Option Flight) (r s : RingView M) (f : Flight) (answer : Arrival) (round : LedRound view (standing_as o r) f answer s) (g h : GuestState) (is : round.guest ≡ Some g) (next : round.guest_then ≡ Some h) where
+  abbrev pub front : List DeviceState
+  front = r.before ++ device_of r.drive.state ∷ round.boxed
+
+  abbrev pub front_then : List DeviceState
+  front_then = s.before ++ device_of s.drive.state ∷ round.boxed_then
+
+  abbrev pub few : ℕ
+  few = length front
+
+  devices_before : devices_of r ≡ front ++ g.device ∷ []
+  devices_before =
+      ap (λ after. r.before ++ device_of r.drive.state ∷ after) (round.after ∙ ap (λ guest. round.boxed ++ guest_devices guest) is)
+      ∙ sym (append_assoc r.before (device_of r.drive.state ∷ round.boxed) (g.device ∷ []))
+
+  devices_after : devices_of s ≡ front_then ++ h.device ∷ []
+  devices_after =
+      ap (λ after. s.before ++ device_of s.drive.state ∷ after) (round.after_then ∙ ap (λ guest. round.boxed_then ++ guest_devices guest) next)
+      ∙ sym (append_assoc s.before (device_of s.drive.state ∷ round.boxed_then) (h.device ∷ []))
+
+  pub size : length (devices_of r) ≡ few + 1
+  size = ap length devices_before ∙ length-append front (g.device ∷ [])
 
   same_size : length (devices_of s) ≡ length (devices_of r)
   same_size =
-      let all = ap length devices_after in
-      let sum = length-append (devices_of rest_then) (two.h.device ∷ []) in
-      let then_ = length-append s.before (device_of s.drive.state ∷ two.boxed_then) in
-      let now = length-append r.before (device_of r.drive.state ∷ two.boxed) in
-      let fronts = two.before in
-      omega (arith, all, sum, then_, now, fronts, two.same_many, loop_is)
+      let same = Journey-length r.books.plan 1 (trip_of (standing_as o r).books (Some f)) round.at_last front front_then (led_to_last view (standing_as o r) s f answer round) in
+      let then_ = ap length devices_after ∙ length-append front_then (h.device ∷ []) in
+      let now = size in
+      omega (arith, same, then_, now)
 
-  lead : is_leading two.h.control ≡ true
-  lead = sym (ap leads two.mind_then) ∙ led_after.leads
+  module _ (ready : Stands (few + 1) 0 (Some f) front) (starts : Starts r.books few f) (kept : (y : Flight) → r.books.kept ≡ Some y → (1 ≤ y.source) × (y.source ≤ few))
+      (answers : (y at : Flight) → round.at_last.flight ≡ Some y → hit (next_fault r.books.plan round.at_last.crossings) y ≡ Some at → (out : GuestOut) → GuestTakes g at.now out h → LastAnswers r.books.kept g h out)
+      (ends : (s.books ≡ lent_home (length (devices_of r)) (books_led (standing_as o r).books round.behind) round.behind.trip.flight) ⊎ EndsAlone (standing_as o r) s round.behind) where
+    -- past the devices before it
+    went : Counted (few + 1) 0 (trip_of (standing_as o r).books (Some f)) front round.at_last front_then × Stands (few + 1) (0 + few) round.at_last.flight []
+    went = counted_journey r.books.plan (few + 1) 0 (trip_of (standing_as o r).books (Some f)) round.at_last front front_then (omega arith) ready (led_to_last view (standing_as o r) s f answer round)
 
-  stands : StandsUnder loop two.g.control (turned_flight loop f) r.books.kept
-  stands =
-      subst (λ lent. StandsLent loop (Some (mind_of two.g)) lent r.books.kept) lent
-      (subst (λ guest. StandsLent loop guest r.books.lent r.books.kept) two.mind led_before.stands)
+    abbrev first : Counted (few + 1) 0 (trip_of (standing_as o r).books (Some f)) front round.at_last front_then
+    first = went.0
 
-  at_home : s.books ≡ lent_home loop (books_led (going_on r).books two.behind) two.behind.trip.flight
-  at_home = two.books ∙ ap (λ lead. led_home lead loop (books_led (going_on r).books two.behind) two.behind.trip.flight) lead
+    far_is : 0 + length front ≡ few
+    far_is = omega arith
 
-  homeward : Homeward few f two.own.log two.own.held (arriving_one two.arrives)
-  homeward = round_homeward view rest rest_then f two.arrives refl ready two.its_round
+    past_hit : (y : Flight) (after : Option Flight) → y.source ≤ few + 1 → round.at_last.flight ≡ Some y → hit (next_fault r.books.plan round.at_last.crossings) y ≡ after
+        → GuestMeets (few + 1) (trip round.at_last.crossings round.at_last.log (Some y)) r.books.kept y after g round.behind h
+        → PastCounted few (trip round.at_last.crossings round.at_last.log (Some y)) r.books.kept g round.behind h
+    past_hit y None within at hits met =
+        subst (λ u. PastCounted few (trip round.at_last.crossings round.at_last.log (Some y)) r.books.kept g u h) (sym met.0)
+        (subst (λ h. PastCounted few (trip round.at_last.crossings round.at_last.log (Some y)) r.books.kept g (led (missed (risen round.at_last.crossings) round.at_last.log (few + 1) y) r.books.kept) h) (sym met.1)
+        (past_lost few round.at_last.crossings round.at_last.log g h y within r.books.kept))
+    past_hit y (Some x) within at hits met =
+        let answer_so = answers y x at hits met.0 met.1 in
+        subst (λ u. PastCounted few (trip round.at_last.crossings round.at_last.log (Some y)) r.books.kept g u h) (sym met.2)
+        (past_answered few round.at_last.crossings round.at_last.log g h y within x (hit_same (next_fault r.books.plan round.at_last.crossings) y x hits).source answer_so.rises r.books.kept met.0 answer_so.no_passing answer_so.unkept kept)
 
-  one_home : sum_by (home_at loop) two.own.log ≡ 1
-  one_home = ap (λ k. sum_by (home_at k) two.own.log) loop_is ∙ homeward.home
+    past_reached : (after : Option Flight) → round.at_last.flight ≡ after → Stands (few + 1) (0 + few) after []
+        → GuestReaches r.books.plan (few + 1) (trip round.at_last.crossings round.at_last.log after) r.books.kept after g round.behind h
+        → PastCounted few (trip round.at_last.crossings round.at_last.log after) r.books.kept g round.behind h
+    past_reached None at can reached =
+        subst (λ u. PastCounted few (trip round.at_last.crossings round.at_last.log None) r.books.kept g u h) (sym reached.0)
+        (subst (λ h. PastCounted few (trip round.at_last.crossings round.at_last.log None) r.books.kept g (led (trip round.at_last.crossings round.at_last.log None) r.books.kept) h) (sym reached.1)
+        (past_none few round.at_last.crossings round.at_last.log g h r.books.kept))
+    past_reached (Some y) at can reached =
+        past_hit y (hit (next_fault r.books.plan round.at_last.crossings) y) (source_within (0 + few) (few + 1) y [] (omega arith) can) at refl reached
 
-  kept_from : (h : Flight) → r.books.kept ≡ Some h → (1 ≤ h.source) × (h.source < loop)
-  kept_from h is = let known = awaited h is in (omega (arith, known.there), omega (arith, known.there, known.within, loop_is))
+    past : PastCounted few round.at_last r.books.kept g round.behind h
+    past =
+        let passage : LastPassage r.books.plan (length (devices_of r)) round.at_last r.books.kept (Some g) round.behind (Some h) =
+        subst (λ later. LastPassage r.books.plan (length (devices_of r)) round.at_last r.books.kept (Some g) round.behind later) next
+        (subst (λ guest. LastPassage r.books.plan (length (devices_of r)) round.at_last r.books.kept guest round.behind round.guest_then) is round.past_last) in
+        let reached : GuestReaches r.books.plan (few + 1) round.at_last r.books.kept round.at_last.flight g round.behind h =
+        subst (λ k. GuestReaches r.books.plan k round.at_last r.books.kept round.at_last.flight g round.behind h) size passage in
+        past_reached round.at_last.flight refl went.1 reached
 
-  unkept : (at : Frame) (given : GuestOut) (x : Frame) → GuestTakes two.g at given two.h → given ≡ reply.Source x → (kept : Option Flight) → r.books.kept ≡ kept → r.books.kept ≡ None
-  unkept at given x takes is None kept_is = kept_is
-  unkept at given x takes is (Some h) kept_is =
-      let held = kept_held loop two.g.control (turned_flight loop f) h (subst (StandsUnder loop two.g.control (turned_flight loop f)) kept_is stands) in
-      absurd (held_sends two.g two.h at x held.0 held.1 given held.2 lead takes is)
+    abbrev both : List Entry
+    both = first.entries ++ past.entries
 
-  ends : LedEnds (going_on r) s two.own
-  ends = ⊎_elim
-      (λ (none : NothingCame loop r.books.log r.books.kept two.g two.h two.behind two.arrives two.own).
-      nothing_ends (going_on r) s answer two.behind two.own at_home two.answer_is none.flight none.keeps none.log_is none.crossings none.held one_home)
-      (λ (some : SomeCame loop r.books.log r.books.kept (books_anew None (going_on r).books) two.g two.h two.behind two.arrives two.own).
-      came_ends (going_on r) s answer two.behind two.own at_home two.answer_is (books_anew None (going_on r).books) some.at some.count some.entries some.within refl some.own_is some.out
-      (λ x is. no_pass two.h.control x (sym (answers_so two.g two.h some.at.now some.out lead some.takes) ∙ is))
-      (λ x is. unkept some.at.now some.out x some.takes is r.books.kept refl) kept_from some.behind_is)
-      two.came
+    log_both : round.behind.trip.log ≡ r.books.log ++ both
+    log_both = past.log ∙ ap (λ log. log ++ past.entries) first.log ∙ append_assoc r.books.log first.entries past.entries
 
-  -- what the round did to the ring of the others
-  counts : Rounded rest None f two.arrives rest_then
-  counts = round_counts view rest rest_then None f two.arrives ready two.its_round
+    -- where nothing goes on, an entry was made
+    some_made : round.behind.trip.flight ≡ None → (y : Flight) → round.behind.kept ≡ Some y → (front : List Entry) × (last : Entry) × (both ≡ front ++ last ∷ [])
+    some_made flight y is_kept = by both refl
+      where
+        by : (es : List Entry) → both ≡ es → (front : List Entry) × (last : Entry) × (both ≡ front ++ last ∷ [])
+        by [] none =
+            let same : round.behind.kept ≡ r.books.kept = ⊎_elim (λ same. same) (λ gone. let clash : None ≡ Some y = sym gone ∙ is_kept in cc) (past.silent flight) in
+            let kept_sum : sum_by (links_of (few + 1)) (entry_where (few + 1) round.behind.kept) ≡ sum_by (links_of (few + 1)) (entry_where (few + 1) r.books.kept) = ap (λ kept. sum_by (links_of (few + 1)) (entry_where (few + 1) kept)) same in
+            let counted = past.counted (links_of (few + 1)) (on_way (few + 1) 0) (on_way (few + 1) few) (on_way (few + 1) (few + 1)) 1 1 1 (links_measure few) in
+            let linked = first.linked in
+            let there = ap (λ j. on_way (few + 1) j round.at_last.flight) far_is in
+            let away : on_way (few + 1) (few + 1) round.behind.trip.flight ≡ 0 = ap (on_way (few + 1) (few + 1)) flight in
+            let sum : sum_by (links_of (few + 1)) first.entries + sum_by (links_of (few + 1)) past.entries ≡ 0 =
+            sym (sum_by-append (links_of (few + 1)) first.entries past.entries) ∙ ap (sum_by (links_of (few + 1))) none in
+            ⊎_elim
+            (λ (goes : (1 ≤ f.source) × (f.source ≤ few + 1) × (r.books.lent ≡ Some f)).
+            let far : 1 ≤ way (few + 1) f.source 0 = way-some (few + 1) f.source goes.0 goes.1 in
+            absurd (omega (arith, kept_sum, counted, linked, there, away, sum, far)))
+            (λ (host : (f.source ≡ 0) × (r.books.lent ≡ None) × (r.books.kept ≡ None)). let clash : None ≡ Some y = sym host.2 ∙ sym same ∙ is_kept in cc)
+            starts
+        by (e ∷ es) made = let split = ends_by e es in (split.0, split.1, made ∙ split.2)
 
-  on : list_all (is_on few) two.own.log ≡ true
-  on = (round_tells view rest rest_then None f two.arrives two.its_round two.own.log (omega (arith, within, loop_is)) refl).on
+    home : HomeCounted (standing_as o r) s round.behind both few
+    home = ⊎_elim (λ books. by books round.behind.trip.flight refl) (λ alone. alone_counted (standing_as o r) s round.behind both few log_both alone) ends
+      where
+        by : s.books ≡ lent_home (length (devices_of r)) (books_led (standing_as o r).books round.behind) round.behind.trip.flight → (after : Option Flight) → round.behind.trip.flight ≡ after
+            → HomeCounted (standing_as o r) s round.behind both few
+        by books None flight = silent_counted (standing_as o r) s answer round.behind both books round.answer_is log_both few flight (some_made flight)
+        by books (Some y) flight = let there = past.from y flight in out_counted (standing_as o r) s answer round.behind both books round.answer_is log_both few y flight there.0 there.1
 
-  same_entries : counts.entries ≡ two.own.log
-  same_entries = sym counts.log
+    -- what stood before counts for as much as the frame does as it begins, with what is kept
+    start_is : (measure : Entry → ℕ) (start before far : Option Flight → ℕ) (lost here home_more : ℕ) → IsMeasure few measure start before far lost here home_more → sum_by measure (entry_where 0 r.books.lent) ≡ start (Some f)
+    start_is measure start before far lost here home_more is = ⊎_elim
+        (λ (goes : (1 ≤ f.source) × (f.source ≤ few + 1) × (r.books.lent ≡ Some f)).
+        let one : sum_by measure (entry_where 0 (Some f)) ≡ measure (ended_at f 0) = omega arith in
+        ap (λ lent. sum_by measure (entry_where 0 lent)) goes.2 ∙ one ∙ is.at_first f goes.0 goes.1)
+        (λ (host : (f.source ≡ 0) × (r.books.lent ≡ None) × (r.books.kept ≡ None)). ap (λ lent. sum_by measure (entry_where 0 lent)) host.1 ∙ sym (is.host_first f host.0))
+        starts
 
-  new_is : holding counts.new ≡ holding two.own.held
-  new_is = ⊎_elim (λ is. ap holding (sym is)) (λ is. ap holding is.0 ∙ sym (ap holding is.1)) counts.held_is
+    -- By each measure the parts of the way come to what stands then, with the entries: on the first part so much was added.
+    balance : (measure : Entry → ℕ) (start before far : Option Flight → ℕ) (lost here home_more added : ℕ) → IsMeasure few measure start before far lost here home_more
+        → added + start (Some f) ≡ sum_by measure first.entries + before round.at_last.flight
+        → ((added + (cond past.took here 0 + cond past.gone lost 0)) + cond home.goes home_more 0) + sum_by measure (standing (few + 1) r.books) ≡ sum_by measure (home.added ++ standing (length (devices_of r)) s.books)
+    balance measure start before far lost here home_more added is begun =
+        let at_last = past.counted measure start before far lost here home_more is in
+        let at_home = home.counted measure start before far lost here home_more is in
+        let sum = sum_by-append measure first.entries past.entries in
+        let kept_sum : sum_by measure (entry_where (length (devices_of r)) round.behind.kept) ≡ sum_by measure (entry_where (few + 1) round.behind.kept) = ap (λ k. sum_by measure (entry_where k round.behind.kept)) size in
+        let stood = sum_by-append measure (entry_where (few + 1) r.books.kept) (entry_where 0 r.books.lent) in
+        let at_start = start_is measure start before far lost here home_more is in
+        omega (arith, begun, at_last, at_home, sum, kept_sum, stood, at_start)
 
-  its_frames : TookSince loop (standing loop r.books) (ends.entries ++ standing loop s.books) (few + 1) two.g.device two.h.device
-  its_frames = (arriving_one two.arrives, rises, counted)
-    where
-      rises : two.h.device.frames ≡ risen_by (arriving_one two.arrives) two.g.device.frames
-      rises = ⊎_elim
-          (λ (none : NothingCame loop r.books.log r.books.kept two.g two.h two.behind two.arrives two.own).
-          ap (λ (g : GuestState). g.device.frames) none.same ∙ sym (ap (λ arrives. risen_by (arriving_one arrives) two.g.device.frames) none.arrives_is))
-          (λ (some : SomeCame loop r.books.log r.books.kept (books_anew None (going_on r).books) two.g two.h two.behind two.arrives two.own).
-          let at = in_rounds loop two.g.control (turned_flight loop f) r.books.kept stands in
-          frames_rise two.g two.h at.0 some.at.now some.out at.1 some.takes ∙ sym (ap (λ arrives. risen_by (arriving_one arrives) two.g.device.frames) some.arrives_is))
-          two.came
+    other_frames : (q c : ℕ) → 0 < q → q ≤ 0 + few → c + brought (few + 1) 0 q (Some f) ≡ entries_to (few + 1) q first.entries + brought (few + 1) (0 + length front) q round.at_last.flight
+        → c + count_by (brings_to (few + 1) q) (standing (few + 1) r.books) ≡ count_by (brings_to (few + 1) q) (home.added ++ standing (length (devices_of r)) s.books)
+    other_frames q c low high known =
+        let there = ap (λ j. brought (few + 1) j q round.at_last.flight) far_is in
+        let all = balance (λ e. cond (brings_to (few + 1) q e) 1 0) (brought (few + 1) 0 q) (brought (few + 1) few q) (brought (few + 1) (few + 1) q) 0 0 0 c (came_measure few q (omega (arith, low)) (omega (arith, high))) (known ∙ ap (λ n. entries_to (few + 1) q first.entries + n) there) in
+        let none = none_more past.took in
+        let nothing = none_more past.gone in
+        let no = none_more home.goes in
+        omega (arith, all, none, nothing, no)
 
-      counted : arriving_one two.arrives + count_by (brings_to loop (few + 1)) (standing loop r.books) ≡ count_by (brings_to loop (few + 1)) (ends.entries ++ standing loop s.books)
-      counted =
-          let last : loop ≡ few + 1 = omega (arith, loop_is) in
-          let its_log = turned_passes_last few loop two.own.log loop_is on in
-          let held = holding_one two.own.held in
-          let sending = sending_one f in
-          let known = homeward.last in
-          let all = balance (going_on r) s two.own f ends (λ e. cond (brings_to loop loop e) 1 0) 0 some_one (arriving_one two.arrives) (count_by (brings_to few 0) two.own.log) (last_measure loop (omega (arith, within))) within r.books.lent lent
-          (omega (arith, held, sending, known)) (omega (arith, its_log)) in
-          let none = no_more ends.goes in
-          subst (λ q. arriving_one two.arrives + count_by (brings_to loop q) (standing loop r.books) ≡ count_by (brings_to loop q) (ends.entries ++ standing loop s.books)) last (omega (arith, all, none))
+    last_frames : TookSince (few + 1) (standing (few + 1) r.books) (home.added ++ standing (length (devices_of r)) s.books) (0 + few + 1) g.device h.device
+    last_frames = (
+      cond past.took 1 0,
+      past.rises,
+      (
+          let there = ap (λ j. brought (few + 1) j (few + 1) round.at_last.flight) far_is in
+          let begun = first.outside (few + 1) (omega arith) (omega arith) (inr (omega arith)) in
+          let all = balance (λ e. cond (brings_to (few + 1) (few + 1) e) 1 0) (brought (few + 1) 0 (few + 1)) (brought (few + 1) few (few + 1)) (brought (few + 1) (few + 1) (few + 1)) 0 1 0 0 (last_measure few)
+          (omega (arith, begun, there)) in
+          let nothing = none_more past.gone in
+          let no = none_more home.goes in
+          let place : few + 1 ≡ 0 + few + 1 = omega arith in
+          subst (λ q. cond past.took 1 0 + count_by (brings_to (few + 1) q) (standing (few + 1) r.books) ≡ count_by (brings_to (few + 1) q) (home.added ++ standing (length (devices_of r)) s.books)) place (omega (arith, all, nothing, no))
+          ),
+    )
 
-  others_frames : (q c : ℕ) → 0 < q → q ≤ 0 + few → c + held_passes q (device_sending f) ≡ passes_so_far few q two.own.log (holding two.own.held)
-      → c + count_by (brings_to loop q) (standing loop r.books) ≡ count_by (brings_to loop q) (ends.entries ++ standing loop s.books)
-  others_frames q c low high counted =
-      let its_log = turned_passes few loop q two.own.log loop_is (omega (arith, low)) (omega (arith, high)) on in
-      let all = balance (going_on r) s two.own f ends (λ e. cond (brings_to loop q e) 1 0) 0 (held_passes q) c (count_by (brings_to few q) two.own.log) (came_measure few loop q loop_is (omega (arith, low)) (omega (arith, high))) within r.books.lent lent
-      counted (omega (arith, its_log)) in
-      let none = no_more ends.goes in
-      omega (arith, all, none)
+    abbrev links_now : ℕ
+    links_now = (first.links + (cond past.took 1 0 + cond past.gone 1 0)) + cond home.goes 1 0
 
-  all_frames : AllTookSince loop (standing loop r.books) (ends.entries ++ standing loop s.books) 0 (devices_of r) (devices_of s)
-  all_frames =
-      let took : AllTook few (device_sending f) two.own.log (holding two.own.held) 0 (devices_of rest) (devices_of rest_then) =
-      subst (λ held. AllTook few (device_sending f) two.own.log held 0 (devices_of rest) (devices_of rest_then)) new_is
-      (subst (λ entries. AllTook few (device_sending f) entries (holding counts.new) 0 (devices_of rest) (devices_of rest_then)) same_entries counts.frames) in
-      let place : few + 1 ≡ 0 + few + 1 = omega arith in
-      let last = subst (λ q. TookSince loop (standing loop r.books) (ends.entries ++ standing loop s.books) q two.g.device two.h.device) place its_frames in
-      let all = since_from few loop (standing loop r.books) (ends.entries ++ standing loop s.books) (device_sending f) two.own.log (holding two.own.held) 0 (devices_of rest) (devices_of rest_then) two.g.device two.h.device others_frames last took in
-      subst (λ es. AllTookSince loop (standing loop r.books) (ends.entries ++ standing loop s.books) 0 (devices_of r) es) (sym devices_after)
-      (subst (λ ds. AllTookSince loop (standing loop r.books) (ends.entries ++ standing loop s.books) 0 ds (devices_of rest_then ++ two.h.device ∷ [])) (sym devices_before) all)
+    linked_now : links_now + sum_by (links_of (few + 1)) (standing (few + 1) r.books) ≡ sum_by (links_of (few + 1)) (home.added ++ standing (length (devices_of r)) s.books)
+    linked_now =
+        let there = ap (λ j. on_way (few + 1) j round.at_last.flight) far_is in
+        let known = first.linked in
+        balance (links_of (few + 1)) (on_way (few + 1) 0) (on_way (few + 1) few) (on_way (few + 1) (few + 1)) 1 1 1 first.links (links_measure few) (omega (arith, known, there))
 
-  all_links : (counts.links + cond ends.goes 1 0) + sum_by (links_of loop) (standing loop r.books) ≡ sum_by (links_of loop) (ends.entries ++ standing loop s.books)
-  all_links =
-      let its_log = turned_sum few loop two.own.log loop_is on in
-      let homes = turned_home loop two.own.log in
-      let known : counts.links + held_links few (device_sending f) ≡ links_so_far few two.own.log (holding two.own.held) = counts.linked ∙ ap₂ (links_so_far few) same_entries new_is in
-      balance (going_on r) s two.own f ends (links_of loop) 1 (held_links few) counts.links (sum_by (links_of few) two.own.log) (links_measure few loop loop_is) within r.books.lent lent known (omega (arith, its_log, homes, one_home))
+    frames_now : AllTookSince (few + 1) (standing (few + 1) r.books) (home.added ++ standing (length (devices_of r)) s.books) 0 (devices_of r) (devices_of s)
+    frames_now =
+        let all = since_framed (few + 1) (λ q. brought (few + 1) 0 q (Some f)) (λ q. entries_to (few + 1) q first.entries + brought (few + 1) (0 + length front) q round.at_last.flight)
+        (standing (few + 1) r.books) (home.added ++ standing (length (devices_of r)) s.books) 0 front front_then g.device h.device other_frames last_frames first.inside in
+        subst (λ es. AllTookSince (few + 1) (standing (few + 1) r.books) (home.added ++ standing (length (devices_of r)) s.books) 0 (devices_of r) es) (sym devices_after)
+        (subst (λ ds. AllTookSince (few + 1) (standing (few + 1) r.books) (home.added ++ standing (length (devices_of r)) s.books) 0 ds (front_then ++ h.device ∷ [])) (sym devices_before) all)
 
-  -- What a pass adds to the counts: the one that begins with this frame at the host of a lent ring.
-  pub led_counts : LedCounts r s
-  led_counts = record {
-    entries = ends.entries;
-    log = ends.log;
-    size = same_size;
-    links = counts.links + cond ends.goes 1 0;
-    crossings = ends.crossings ∙ ap (risen_by (cond ends.goes 1 0)) counts.crossings ∙ sym (risen_by-add counts.links (cond ends.goes 1 0) r.books.crossings);
-    linked = all_links;
-    frames = all_frames;
-  }
+    pub counts_by : LedCounts r s
+    counts_by = record {
+      entries = home.added;
+      log = home.log_is;
+      size = same_size;
+      links = links_now;
+      crossings =
+          home.crossings
+          ∙ ap (risen_by (cond home.goes 1 0)) (past.crossings ∙ ap (risen_by (cond past.took 1 0 + cond past.gone 1 0)) first.crossings ∙ sym (risen_by-add first.links (cond past.took 1 0 + cond past.gone 1 0) r.books.crossings))
+          ∙ sym (risen_by-add (first.links + (cond past.took 1 0 + cond past.gone 1 0)) (cond home.goes 1 0) r.books.crossings);
+      linked = subst (λ k. links_now + sum_by (links_of k) (standing k r.books) ≡ sum_by (links_of k) (home.added ++ standing (length (devices_of r)) s.books)) (sym size) linked_now;
+      frames = subst (λ k. AllTookSince k (standing k r.books) (home.added ++ standing (length (devices_of r)) s.books) 0 (devices_of r) (devices_of s)) (sym size) frames_now;
+    }
+
+-- ---- a pass
+
+-- The frame f stands at the host of a lent ring: it is the second controller's own, or awaited by its source; and so is what is kept.
+pub led_counts : {M : Type 0} (view : M → MediumView) (r s : RingView M) (f : Flight) (answer : Arrival) → IsLed r → IsLed s → r.books.lent ≡ Some f → (round : LedRound view (going_on r) f answer s)
+    → ((ds : List DeviceState) → ds ≡ r.before ++ device_of r.drive.state ∷ round.boxed → length (devices_of r) ≡ length ds + 1
+    → (Stands (length ds + 1) 0 (Some f) ds × (1 ≤ f.source) × (f.source ≤ length ds + 1)) × ((y : Flight) → r.books.kept ≡ Some y → (1 ≤ y.source) × (y.source ≤ length ds))) → LedCounts r s
+led_counts view r s f answer led_before led_after lent round known = by round.guest round.guest_then refl refl
+  where
+    by : (guest later : Option GuestState) → round.guest ≡ guest → round.guest_then ≡ later → LedCounts r s
+    by None later is next = let clash = sym led_before.leads ∙ ap leads (round.mind ∙ ap guest_mind is) in cc
+    by (Some g) None is next =
+        absurd (subst (λ later. LastPassage r.books.plan (length (devices_of r)) round.at_last r.books.kept (Some g) round.behind later) next
+        (subst (λ guest. LastPassage r.books.plan (length (devices_of r)) round.at_last r.books.kept guest round.behind round.guest_then) is round.past_last))
+    by (Some g) (Some h) is next =
+        let k = length (devices_of r) in
+        let at = known (front view None r s f answer round g h is next) refl (size view None r s f answer round g h is next) in
+        let lead : is_leading h.control ≡ true = sym (ap leads (round.mind_then ∙ ap guest_mind next)) ∙ led_after.leads in
+        let stands : StandsUnder k g.control f r.books.kept =
+        subst (λ lent. StandsLent k (Some (mind_of g)) lent r.books.kept) lent (subst (λ guest. StandsLent k guest r.books.lent r.books.kept) (round.mind ∙ ap guest_mind is) led_before.stands) in
+        let place = in_rounds k g.control f r.books.kept stands in
+        counts_by view None r s f answer round g h is next at.0.0 (inl (at.0.1, at.0.2, lent)) at.1
+        (λ y x came hits out takes. record {
+          no_passing = λ x passes. no_pass h.control x (sym (answers_so g h _ out lead takes) ∙ passes);
+          unkept = λ x sends. unkept_in k g h f _ out x r.books.kept stands lead takes sends;
+          rises = frames_rise g h place.0 _ out place.1 takes;
+        })
+        (inl (round.books ∙ ap (λ lead. led_home lead k (books_led (going_on r).books round.behind) round.behind.trip.flight) led_after.leads))

@@ -21,7 +21,7 @@ use Rattle.il_ring.specs.Flights.{ended_at}
 use Rattle.il_ring.specs.Lending.{entry_where}
 use Rattle.il_ring.specs.Rings.{roles_of}
 use Rattle.il_ring.specs.Turned.{turned, turned_entries, turned_entry}
-use Rattle.il_ring.proofs.TurnedCounts.{led_device, own_lost-roles, own_taken-roles, stays_led, turned_some}
+use Rattle.il_ring.proofs.TurnedRoles.{led_device, own_lost-roles, own_taken-roles, stays_led, turned_some}
 
 -- ---- lists
 

@@ -37,7 +37,7 @@ use Rattle.il_ring.specs.declared.plan.Planned.{Planned}
 use Rattle.il_ring.specs.Books.{BooksView}
 use Rattle.il_ring.specs.Flights.{hit, sourced}
 use Rattle.il_ring.specs.Guests.{guest_devices, guest_mind, last_asked}
-use Rattle.il_ring.specs.Journeys.{Trip, Journey, Meets, Reaches, is_identify_class, trip_of}
+use Rattle.il_ring.specs.Journeys.{Trip, Journey, Passage, is_identify_class, trip_of}
 use Rattle.il_ring.specs.LedAdds.{LedKeeps}
 use Rattle.il_ring.specs.Lending.{GuestMeets, GuestReaches, IsLed, LastPassage, LedRound, LedTrip, books_led, going_on, leads, led_home, over_lent_link}
 use Rattle.il_ring.specs.Lists.{Each, First}
@@ -46,8 +46,8 @@ use Rattle.il_ring.specs.Plans.{next_fault}
 use Rattle.il_ring.specs.Polls.{KeepsPlace, is_listen_address, is_poll}
 use Rattle.il_ring.specs.Rings.{RingView, comes, devices_of, over_last_link}
 use Rattle.il_ring.specs.Turned.{Halves, NothingCame, SomeCame, books_anew, ring_before_last}
-use Rattle.il_ring.proofs.Handing.{NeverMade, OnWay, hit_lacks, journey_lacks}
-use Rattle.il_ring.proofs.Journeys.{Journey-one}
+use Rattle.il_ring.proofs.Handing.{NeverMade, OnWay, hit_lacks, journey_lacks, passage_lacks}
+use Rattle.il_ring.proofs.Journeys.{past_devices, past_party}
 use Rattle.il_ring.proofs.Kept.{stays_keeps, takes_keeps}
 use Rattle.il_ring.proofs.LedRounds.{led_to_last}
 use Rattle.il_ring.proofs.Rings.{Journey-length}
@@ -133,23 +133,13 @@ module _ (bad : Message → Bool) (R : DeviceState → DeviceState → Type 0) (
   abbrev Lacks : Frame → Type 0
   Lacks f = bad (message_of f) ≡ false
 
-  met_each : (k : ℕ) (t : Trip) (f : Flight) (o : Option Flight) (d e : DeviceState) (u : Trip) → OnWay Lacks o → Meets Takes k t f o d u e → R d e
-  met_each k t f None d e u none met = subst (R d) (sym met.1) (does.stays d)
-  met_each k t f (Some g) d e u none met = does.takes d e g.now met.0 none met.1
-
-  reached_each : (plan : List Planned) (k : ℕ) (t : Trip) (o : Option Flight) (d e : DeviceState) (u : Trip) → OnWay Lacks o → Reaches Takes plan k t o d u e → R d e
-  reached_each plan k t None d e u none reached = subst (R d) (sym reached.1) (does.stays d)
-  reached_each plan k t (Some f) d e u none reached =
-      met_each k t f (hit (next_fault plan t.crossings) f) d e u (hit_lacks bad does.never (next_fault plan t.crossings) f (hit (next_fault plan t.crossings) f) none refl) reached
+  device_each : (plan : List Planned) (k : ℕ) (t u : Trip) (d e : DeviceState) → OnWay Lacks t.flight → Passage Takes plan k t d u e → R d e
+  device_each plan k t u d e none passage = past_party Takes plan k t d (λ u e. R d e) (λ is. does.stays d) (λ f is gone. does.stays d)
+      (λ f g out e is came takes. does.takes d e g.now out (hit_lacks bad does.never (next_fault plan t.crossings) f (Some g) (subst (OnWay Lacks) is none) came) takes) u e passage
 
   pub journey_each : (plan : List Planned) (k : ℕ) (t u : Trip) (ds es : List DeviceState) → 1 ≤ k → OnWay Lacks t.flight → Journey plan k t ds u es → First R (length ds) ds es
-  journey_each plan k t u [] [] some none journey = tt
-  journey_each plan k t u (d ∷ ds) (e ∷ es) some none journey = (
-    reached_each plan k t t.flight d e journey.0 none journey.1,
-    journey_each plan (k + 1) journey.0 u ds es (omega arith) (journey_lacks bad does.never plan k t journey.0 (d ∷ []) (e ∷ []) some none (Journey-one plan k t journey.0 d e journey.1)) journey.2,
-  )
-  journey_each plan k t u [] (e ∷ es) some none journey = absurd journey
-  journey_each plan k t u (d ∷ ds) [] some none journey = absurd journey
+  journey_each plan k t u ds es some none journey =
+      (past_devices plan 1 (λ k t. OnWay Lacks t.flight) R (λ k t u d e some none passage. (passage_lacks bad does.never plan k t u d e some none passage, device_each plan k t u d e none passage)) k t u ds es some none journey).1
 
   -- the second controller, by who controls
   host_each : (g h : GuestState) (f : Frame) (out : GuestOut) (b : Bool) → takes_control g f ≡ b → g.control ≡ control.Host → Lacks f → GuestTakes g f out h → R g.device h.device

@@ -37,14 +37,14 @@ use Rattle.il_ring.specs.Guests.{GuestMind, IsUnderHost, guest_devices, guest_mi
 use Rattle.il_ring.specs.Journeys.{Trip, trip_of, DriveTakes}
 use Rattle.il_ring.specs.Lending.{IsLed, LedRound, LedTrip, GuestMeets, GuestReaches, LastPassage, StandsAt, StandsNow, StandsLent, StandsUnder, TakenBack, as_host, books_led, entry_where, going_on, leads, lending_ended, taken_back, host_leads, led_answers, led_home, lent_home, lent_lost, over_lent_link}
 use Rattle.il_ring.specs.Rings.{RingView, IsRing, Round, arrived, arriving, devices_of, ring_emptied}
-use Rattle.il_ring.proofs.Fates.{ended_so, journey_so, sourced_way, told_cleared, passes_so, reaches_so, starts_so}
+use Rattle.il_ring.proofs.Fates.{ended_so, journey_so, sourced_way, told_cleared, passes_so, passage_so, starts_so}
 use Rattle.il_ring.proofs.Faults.{risen_within}
 use Rattle.il_ring.proofs.Handing.{OnWay, data_hands, data_no_ifc, hit_lacks, ifc_never, journey_lacks}
 use Rattle.il_ring.proofs.LedFates.{TellsLed, last_told, leads_not, led_home_told, passes_under}
 use Rattle.il_ring.proofs.LedRounds.{led_host_round, led_to_last, led_under, on_way_any}
 use Rattle.il_ring.proofs.Lendings.{EndPasses}
 use Rattle.il_ring.proofs.LedSteps.{Stood, home_stands, own_goes, sent_no_ifc, stands_on}
-use Rattle.il_ring.proofs.Rings.{IsRing-send, Journey-length, Reaches-drive}
+use Rattle.il_ring.proofs.Rings.{IsRing-send, Journey-length, Passage-drive}
 use Rattle.il_ring.proofs.SendLaws.{plain_sent}
 
 -- ---- the books behind a led round
@@ -163,13 +163,13 @@ module _ {M : Type 0} (view : M → MediumView) (r s : RingView M) (f : Flight) 
       omega (arith, old, new, before, after)
 
   drive-led : (n : ℕ) × IsDrive n r.drive.state → (n : ℕ) × IsDrive n s.drive.state
-  drive-led is = Reaches-drive view r.books.plan (length r.before + 1) round.at_drive round.past_drive round.at_drive.flight r.drive s.drive is round.at
+  drive-led is = Passage-drive view r.books.plan (length r.before + 1) round.at_drive round.past_drive r.drive s.drive is round.at
 
   tells-led : r.books.crossings ≤ last_crossing → GoesByPlan r.books.plan r.books.begun r.books.crossings f → ShowsPlan r.books → TellsLed r.books round.behind
   tells-led within way told =
       let sets = starts_so r.books r.books.held f within told.held way told in
       let to_drive = journey_so r.books 1 (trip_of r.books (Some f)) round.at_drive r.before s.before sets round.to_drive in
-      let past = reaches_so r.books (DriveTakes view) (λ d e f h (takes : DriveTakes view d f (Pass h) e). passes_so (device_of d.state) (device_of e.state) f h takes.takes) (length r.before + 1) round.at_drive round.past_drive round.at_drive.flight r.drive s.drive to_drive to_drive.way round.at in
+      let past = passage_so r.books (DriveTakes view) (λ d e f h (takes : DriveTakes view d f (Pass h) e). passes_so (device_of d.state) (device_of e.state) f h takes.takes) (length r.before + 1) round.at_drive round.past_drive r.drive s.drive to_drive round.at in
       let last = journey_so r.books (length r.before + 2) round.past_drive round.at_last round.boxed round.boxed_then past round.from_drive in
       last_told r.books (length (devices_of r)) round.at_last r.books.kept round.guest round.guest_then round.behind (record { told = last.told; within = last.within; way = last.way }) round.past_last
 

@@ -1,19 +1,16 @@
 -- What a pass on a lent ring does to the devices' roles, and whose commands it logs, in the words of its entries and of what stands on the ring.
-use Rattle.std.proofs.Common.{◌≡◌, ◌≤◌, ◌<◌, ◌+◌, ◌++◌, ◌⊎◌, ◌==◌, ◌&&◌, not, inl, inr, ⊎_elim, ℕ, zero, suc, Bool, true, false, List, [], ◌∷◌, Option, Some, None, length, refl, sym, ap, ap₂, subst, ◌∙◌, arith, append-nil, append_assoc, length-append, eqb-true}
+use Rattle.std.proofs.Common.{◌≡◌, ◌≤◌, ◌<◌, ◌++◌, ◌⊎◌, ◌==◌, not, inl, inr, ⊎_elim, ℕ, zero, suc, Bool, true, false, List, [], ◌∷◌, Option, Some, None, length, refl, sym, ap, ap₂, subst, ◌∙◌, arith, append-nil, append_assoc, length-append, eqb-true}
 use Rattle.std.specs.Prelude.{if◌then◌else◌}
 use Rattle.std.specs.List.{list_all}
 use Rattle.std.proofs.lemmas.Bool.{and_parts, ne_eqb, eq-eqb, not-true}
 use Rattle.std.proofs.lemmas.List.{append_cancel_left, map-append}
 use Rattle.std.proofs.Math.Nat.{eq-zero-or-pos}
-use Rattle.il_frames.specs.declared.frame.Class.{Class}
-use Rattle.il_frames.specs.declared.frame.Class.TheVariants as class
 use Rattle.il_frames.specs.declared.frame.Frame.{Frame}
-use Rattle.il_frames.specs.declared.message.Message.{Message}
 use Rattle.il_frames.specs.declared.message.Message.TheVariants as msg
 use Rattle.il_frames.specs.declared.entry.Entry.{Entry}
 use Rattle.il_frames.specs.declared.entry.Outcome.TheVariants as outcome
-use Rattle.il_frames.specs.Frames.{class_of, byte_of, is_data, is_data_class}
-use Rattle.il_frames.specs.Messages.{Row, One, Group, commands, message_at, message_in, message_of}
+use Rattle.il_frames.specs.Frames.{is_data}
+use Rattle.il_frames.specs.Messages.{message_of}
 use Rattle.il_frames.specs.NamedFrames.{entry, is_frame, is_ifc, nrd, rfc}
 use Rattle.il_device.specs.declared.device.Out.{Out}
 use Rattle.il_device.specs.declared.device.Out.TheVariants as device
@@ -25,7 +22,6 @@ use Rattle.il_ports.specs.Media.{MediumView}
 use Rattle.loop_model.specs.Roles.{is_spoken, roles_after, roles_by}
 use Rattle.loop_model.specs.Leading.{are_commands_led, controller_after, roles_led}
 use Rattle.loop_model.proofs.LeadingLaws.{are_commands_led-append}
-use Rattle.loop_model.proofs.RoleSteps.{changes_roles}
 use Rattle.loop_model.proofs.TalkLaws.{length-roles_after}
 use Rattle.il_guest.specs.declared.control.Command.{Command}
 use Rattle.il_guest.specs.declared.control.Command.TheVariants as command
@@ -50,7 +46,7 @@ use Rattle.il_ring.specs.Plans.{next_fault}
 use Rattle.il_ring.specs.Flights.{ended_at, hit, lost_at, sourced}
 use Rattle.il_ring.specs.Books.{BooksView}
 use Rattle.il_ring.specs.Fates.{GoesByPlan, HoldsByPlan}
-use Rattle.il_ring.specs.Journeys.{Trip, trip, trip_of, answered, Meets, Reaches, Journey, is_exact}
+use Rattle.il_ring.specs.Journeys.{Trip, trip, trip_of, answered, Passage, Journey, is_exact}
 use Rattle.il_ring.specs.LedAdds.{standing}
 use Rattle.il_ring.specs.Lending.{IsLed, LedTrip, StandsLent, StandsUnder, books_led, entry_where, going_on, led, led_answers, led_home, leads, lent_home}
 use Rattle.il_ring.specs.Rings.{RingView, Round, arrived, arriving, books_at, comes, devices_of, home, over_last_link, roles_of}
@@ -64,60 +60,12 @@ use Rattle.il_ring.proofs.RolesHome.{device_round, host_round, others_leave}
 use Rattle.il_ring.proofs.RoundCounts.{round_journey}
 use Rattle.il_ring.proofs.RoundEntries.{TellsRound, round_tells, sent_spoken}
 use Rattle.il_ring.proofs.RoundRoles.{IsQuiet}
-use Rattle.il_ring.proofs.TurnedCounts.{turned_controller, turned_roles}
+use Rattle.il_ring.proofs.TurnedRoles.{turned_controller, turned_roles}
 use Rattle.il_ring.proofs.TurnedRounds.{ended_home}
 use Rattle.il_ring.proofs.Turnings.{entries_on}
 use Rattle.il_ring.proofs.LedDoes.{Does, HasLast, IsDev, all_said, does_append, does_dev, does_insert, does_own_lost, does_own_taken, does_where, has_last, length-led, length-roles_of, same_parts, split_last, turned_commands, turned_device}
-
--- ---- what frames say
-
--- the message goes on as it is
-fits : Message → Bool
-fits m = is_exact m && not (is_auto_address m)
-
-abbrev RowsFit : List Row → Type 0
-RowsFit [] = Unit {0}
-RowsFit (One at m ∷ rows) = (fits m ≡ true) × RowsFit rows
-RowsFit (Group first count m ∷ rows) = ((n : ℕ) → fits (m n) ≡ true) × RowsFit rows
-
-either_fits : (b : Bool) (m n : Message) → fits m ≡ true → fits n ≡ true → fits (if b then m else n) ≡ true
-either_fits true m n one other = one
-either_fits false m n one other = other
-
-in_fits : (rows : List Row) (byte : ℕ) (other : ℕ → Message) → RowsFit rows → ((n : ℕ) → fits (other n) ≡ true) → fits (message_in rows byte other) ≡ true
-in_fits [] byte other all else_ = else_ byte
-in_fits (One at m ∷ rows) byte other all else_ = either_fits (byte == at) m (message_in rows byte other) all.0 (in_fits rows byte other all.1 else_)
-in_fits (Group first count m ∷ rows) byte other all else_ = either_fits _ (m _) (message_in rows byte other) (all.0 _) (in_fits rows byte other all.1 else_)
-
-commands_fit : RowsFit commands
-unfolding fits
-commands_fit = (refl, (refl, (refl, (refl, (refl, (refl, (refl, (refl, (refl, (refl, (refl, ((λ n. refl), (refl, ((λ n. refl), (refl, ((λ n. refl), ((λ n. refl), (refl, (refl, (refl, (refl, (refl, ((λ n. refl), ((λ n. refl), tt))))))))))))))))))))))))
-
-command_fits : (byte : ℕ) → fits (message_at class.Cmd byte) ≡ true
-unfolding fits
-command_fits byte = in_fits commands byte msg.OtherCmd commands_fit (λ n. refl)
-
-commands_say : (c : Command) → fits (message_of (command_frame c)) ≡ true
-commands_say command.Nop = command_fits (byte_of (command_frame command.Nop))
-commands_say (command.Unl a) = command_fits (byte_of (command_frame (command.Unl a)))
-commands_say (command.Tad a) = command_fits (byte_of (command_frame (command.Tad a)))
-commands_say (command.Unt a) = command_fits (byte_of (command_frame (command.Unt a)))
-
--- a data or end frame
-record SaysData (m : Message) : Type 0 where
-  keeps : changes_roles m ≡ false
-  no_aad : is_auto_address m ≡ false
-  spoken : is_spoken m ≡ true
-
-says_data : (k : Class) (byte : ℕ) → is_data_class k ≡ true → SaysData (message_at k byte)
-says_data class.Dab byte e = record { keeps = refl; no_aad = refl; spoken = refl }
-says_data class.Dsr byte e = record { keeps = refl; no_aad = refl; spoken = refl }
-says_data class.End byte e = record { keeps = refl; no_aad = refl; spoken = refl }
-says_data class.Esr byte e = record { keeps = refl; no_aad = refl; spoken = refl }
-says_data k byte e = cc
-
-data_says : (f : Frame) → is_data f ≡ true → SaysData (message_of f)
-data_says f is = says_data (class_of f) (byte_of f) is
+use Rattle.il_ring.proofs.Journeys.{past_devices, past_party}
+use Rattle.il_ring.proofs.MessageKinds.{commands_say, data_says, fits}
 
 -- ---- the frame on its way in the smaller ring
 
@@ -143,21 +91,13 @@ module _ (D : Type 0) where
   answered_fits log k c g (device.Pass h) d e some takes fit = record { host = λ none d₁. (passes_so d e g.now h takes).kind ∙ fit.host none d₁; device = fit.device }
   answered_fits log k c g (device.Source h) d e some takes fit = record { host = λ none d₁. absurd (omega (arith, some, none)); device = λ some. sent_spoken d e g.now h takes }
 
-  met_fits : (plan : List Planned) (k : ℕ) (t : Trip) (g : Flight) (o : Option Flight) (d e : DeviceState) (u : Trip) → 1 ≤ k → hit (next_fault plan t.crossings) g ≡ o → Fits D g → Meets Takes k t g o d u e → OnFits D u.flight
-  met_fits plan k t g None d e u some is fit met = subst (λ (u : Trip). OnFits D u.flight) (sym met.0) tt
-  met_fits plan k t g (Some h) d e u some is fit met =
-      subst (λ (u : Trip). OnFits D u.flight) (sym met.2) (answered_fits t.log k (risen t.crossings) h met.0 d e some met.1 (hit_fits t.crossings plan g h is fit))
-
-  reached_fits : (plan : List Planned) (k : ℕ) (t : Trip) (o : Option Flight) (d e : DeviceState) (u : Trip) → 1 ≤ k → t.flight ≡ o → OnFits D o → Reaches Takes plan k t o d u e → OnFits D u.flight
-  reached_fits plan k t None d e u some is fit reached = subst (λ (u : Trip). OnFits D u.flight) (sym reached.0) (subst (OnFits D) (sym is) tt)
-  reached_fits plan k t (Some g) d e u some is fit reached = met_fits plan k t g (hit (next_fault plan t.crossings) g) d e u some refl fit reached
+  passage_fits : (plan : List Planned) (k : ℕ) (t u : Trip) (d e : DeviceState) → 1 ≤ k → OnFits D t.flight → Passage Takes plan k t d u e → OnFits D u.flight
+  passage_fits plan k t u d e some fit passage = past_party Takes plan k t d (λ u e. OnFits D u.flight) (λ is. fit) (λ g is gone. tt)
+      (λ g h out e is came takes. answered_fits t.log k (risen t.crossings) h out d e some takes (hit_fits t.crossings plan g h came (subst (OnFits D) is fit))) u e passage
 
   journey_fits : (plan : List Planned) (k : ℕ) (t u : Trip) (ds es : List DeviceState) → 1 ≤ k → OnFits D t.flight → Journey plan k t ds u es → OnFits D u.flight
-  journey_fits plan k t u [] [] some fit journey = subst (λ (u : Trip). OnFits D u.flight) (sym journey) fit
-  journey_fits plan k t u (d ∷ ds) (e ∷ es) some fit journey =
-      journey_fits plan (k + 1) journey.0 u ds es (omega arith) (reached_fits plan k t t.flight d e journey.0 some refl fit journey.1) journey.2
-  journey_fits plan k t u [] (e ∷ es) some fit journey = absurd journey
-  journey_fits plan k t u (d ∷ ds) [] some fit journey = absurd journey
+  journey_fits plan k t u ds es some fit journey =
+      (past_devices plan 1 (λ k t. OnFits D t.flight) (λ d e. Unit {0}) (λ k t u d e some fit passage. (passage_fits plan k t u d e some fit passage, tt)) k t u ds es some fit journey).0
 
   frames_same : (a b : Frame) → arrival.Frame a ≡ arrival.Frame b → a ≡ b
   frames_same a b same = ap (λ answer. elim answer [ arrival.Frame g ↦ g | arrival.Lost ↦ a ]) same

@@ -134,6 +134,10 @@ passes_none plan k t kept (Some g) alone = cc
 pub keeps_same : (b : BooksView) → KeepsBooks 1 b b
 keeps_same b = record { plan = refl; room = refl; held = refl; lent = refl; kept = refl; begun = refl; grows = omega arith }
 
+-- whatever is held
+pub keeps_released : {n : ℕ} {b c : BooksView} → KeepsBooks n b c → KeepsBooks n (record b { held = None }) (record c { held = None })
+keeps_released k = record { plan = k.plan; room = k.room; held = refl; lent = k.lent; kept = k.kept; begun = k.begun; grows = k.grows }
+
 -- by an equal ring
 pub led_round_at : {M : Type 0} (view : M → MediumView) (t r s : RingView M) (f : Flight) (answer : Arrival) → t ≡ r → LedRound view t f answer s → LedRound view r f answer s
 led_round_at view t r s f answer same round = subst (λ r. LedRound view r f answer s) same round

@@ -1,5 +1,5 @@
 -- In a lend each command, ready and identify frame is the controller's, or the IFC by which the host takes control back.
-use Rattle.std.proofs.Common.{nat_le, nat_lt, ◌≡◌, ◌∙◌, ◌++◌, ◌==◌, ◌&&◌, ◌||◌, ℕ, zero, suc, Bool, true, false, not, List, [], ◌∷◌, None, if◌then◌else◌, flat_map, refl, ap, append_assoc}
+use Rattle.std.proofs.Common.{nat_lt, ◌≡◌, ◌∙◌, ◌++◌, ◌==◌, ◌&&◌, ◌||◌, ℕ, zero, suc, Bool, true, false, not, List, [], ◌∷◌, None, if◌then◌else◌, flat_map, refl, ap, append_assoc}
 use Rattle.std.proofs.lemmas.Bool.{and_parts, and_from, not-true, or_left, or_right, eq-eqb}
 use Rattle.std.specs.List.{list_all}
 use Rattle.il_frames.specs.declared.frame.Frame.{Frame}
@@ -17,7 +17,7 @@ use Rattle.loop_model.specs.Exchanges.{Answer, NotTaken, ToItsEnd, Stopped, Exch
 use Rattle.loop_model.specs.Leading.{are_commands_led, controller_after, controller_after_entry, is_no_lend, is_of_controller}
 use Rattle.loop_model.proofs.LeadingLaws.{are_commands_led-append, controller_after-append, controller_after-no_lend}
 use Rattle.il_guest.specs.Frames.{nop, tct}
-use Rattle.il_ring.specs.Lends.{RoundsEnd, AtHost, BreaksOff, ByteLost, Lend, NoTaker, NoTakerCut, Lent, LentCut, LentLost, addressed_talker, all_asked, are_rounds, can_end, ended_after, handed_entries, held_entries, is_break_end, is_lend, is_one_status, is_whole_lend, lend_entries, refused_entries, rounds_asked, rounds_entries}
+use Rattle.il_ring.specs.Lends.{RoundsEnd, AtHost, BreaksOff, ByteLost, Lend, NoTaker, NoTakerCut, Lent, LentCut, LentLost, addressed_talker, all_asked, are_rounds, can_end, ended_after, handed_entries, held_entries, is_lend, is_one_status, is_whole_lend, lend_entries, refused_entries, rounds_asked, rounds_entries}
 
 -- ---- under the host
 

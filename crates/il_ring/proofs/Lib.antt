@@ -52,7 +52,7 @@ pub mod SendLaws
 pub mod Adding
 pub mod RoundAdds
 pub mod Turnings
-pub mod TurnedCounts
+pub mod TurnedRoles
 pub mod RoundEntries
 pub mod TurnedRounds
 pub mod PassSteps
@@ -65,8 +65,9 @@ mod LendExamples
 pub mod HandedOver
 pub mod HandLosses
 pub mod LedDoes
+pub mod MessageKinds
 pub mod LedRoles
-pub mod RoundHomeward
+pub mod EntryMeasures
 pub mod LedCounts
 pub mod LedSums
 pub mod LedSince

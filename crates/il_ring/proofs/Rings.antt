@@ -17,11 +17,12 @@ use Rattle.il_ring.specs.Plans.{next_fault, last_crossing, IsPlan}
 use Rattle.il_ring.specs.Flights.{sourced, hit, lost_at, ended_at}
 use Rattle.il_ring.specs.Books.{BooksView, IsHeld}
 use Rattle.il_ring.specs.Fates.{GoesByPlan, HoldsByPlan, ShowsPlan}
-use Rattle.il_ring.specs.Journeys.{Trip, trip_of, answered, Meets, Reaches, Journey, DriveTakes}
+use Rattle.il_ring.specs.Journeys.{Trip, trip_of, answered, Passage, Journey, DriveTakes}
 use Rattle.il_ring.specs.Rings.{RingView, IsRing, Round, devices_of, books_at, ring_emptied, comes, home, over_last_link}
 use Rattle.il_ring.proofs.Faults.{risen_within}
-use Rattle.il_ring.proofs.Fates.{passes_so, sourced_way, told_cleared, journey_so, reaches_so, home_told, starts_so}
+use Rattle.il_ring.proofs.Fates.{passes_so, sourced_way, told_cleared, journey_so, passage_so, home_told, starts_so}
 use Rattle.il_ring.proofs.RoundCounts.{round_journey}
+use Rattle.il_ring.proofs.Journeys.{past_devices, past_party}
 
 -- ---- as many devices
 
@@ -43,24 +44,17 @@ module _ {M : Type 0} (view : M → MediumView) (r s : RingView M) (held : Optio
 
 -- ---- crossings stay below their greatest count
 
-answered-crossings : (n k : ℕ) (f : Flight) (t u : Trip) (out : Out) → u ≡ answered n t.log k f out → u.crossings ≡ n
-answered-crossings n k f t u (Pass g) is = ap (λ (t : Trip). t.crossings) is
-answered-crossings n k f t u (Source g) is = ap (λ (t : Trip). t.crossings) is
+answered-crossings : (n k : ℕ) (log : List Entry) (f : Flight) (out : Out) → (answered n log k f out).crossings ≡ n
+answered-crossings n k log f (Pass g) = refl
+answered-crossings n k log f (Source g) = refl
 
-Meets-crossings : {D : Type 0} (takes : D → Frame → Out → D → Type 0) (k : ℕ) (t u : Trip) (f : Flight) (o : Option Flight) (d e : D) → Meets takes k t f o d u e → u.crossings ≤ last_crossing
-Meets-crossings takes k t u f None d e meets = let at = ap (λ (t : Trip). t.crossings) meets.0 in omega (arith, at)
-Meets-crossings takes k t u f (Some g) d e meets = let at = answered-crossings (risen t.crossings) k g t u meets.0 meets.2 in omega (arith, at)
-
-pub Reaches-crossings : {D : Type 0} (takes : D → Frame → Out → D → Type 0) (plan : List Planned) (k : ℕ) (t u : Trip) (o : Option Flight) (d e : D) → t.crossings ≤ last_crossing → Reaches takes plan k t o d u e → u.crossings ≤ last_crossing
-Reaches-crossings takes plan k t u None d e within reaches = let at = ap (λ (t : Trip). t.crossings) reaches.0 in omega (arith, at, within)
-Reaches-crossings takes plan k t u (Some f) d e within reaches = Meets-crossings takes k t u f (hit (next_fault plan t.crossings) f) d e reaches
+pub Passage-crossings : {D : Type 0} (takes : D → Frame → Out → D → Type 0) (plan : List Planned) (k : ℕ) (t u : Trip) (d e : D) → t.crossings ≤ last_crossing → Passage takes plan k t d u e → u.crossings ≤ last_crossing
+Passage-crossings takes plan k t u d e within passage = past_party takes plan k t d (λ u e. u.crossings ≤ last_crossing) (λ is. within) (λ f is gone. risen_within t.crossings)
+    (λ f g out e is came took. let at = answered-crossings (risen t.crossings) k t.log g out in let low = risen_within t.crossings in omega (arith, at, low)) u e passage
 
 pub Journey-crossings : (plan : List Planned) (k : ℕ) (t u : Trip) (ds es : List DeviceState) → t.crossings ≤ last_crossing → Journey plan k t ds u es → u.crossings ≤ last_crossing
-Journey-crossings plan k t u [] [] within journey = let at = ap (λ (t : Trip). t.crossings) journey in omega (arith, at, within)
-Journey-crossings plan k t u (d ∷ ds) (e ∷ es) within journey =
-    Journey-crossings plan (k + 1) journey.0 u ds es (Reaches-crossings Takes plan k t journey.0 t.flight d e within journey.1) journey.2
-Journey-crossings plan k t u [] (e ∷ es) within journey = absurd journey
-Journey-crossings plan k t u (d ∷ ds) [] within journey = absurd journey
+Journey-crossings plan k t u ds es within journey =
+    (past_devices plan 0 (λ k t. t.crossings ≤ last_crossing) (λ d e. Unit {0}) (λ k t u d e some within passage. (Passage-crossings Takes plan k t u d e within passage, tt)) k t u ds es (omega arith) within journey).0
 
 -- ---- the books at home
 
@@ -135,13 +129,9 @@ module _ {M : Type 0} (view : M → MediumView) (r s : RingView M) (held : Optio
 
 -- ---- the drive keeps its law
 
-Meets-drive : {M : Type 0} (view : M → MediumView) (k : ℕ) (t u : Trip) (f : Flight) (o : Option Flight) (d e : DriveView M) → (n : ℕ) × IsDrive n d.state → Meets (DriveTakes view) k t f o d u e → (n : ℕ) × IsDrive n e.state
-Meets-drive view k t u f None d e is meets = subst (λ (d : DriveView _). (n : ℕ) × IsDrive n d.state) (sym meets.1) is
-Meets-drive view k t u f (Some g) d e is meets = ((view e.medium).record_count, meets.1.law)
-
-pub Reaches-drive : {M : Type 0} (view : M → MediumView) (plan : List Planned) (k : ℕ) (t u : Trip) (o : Option Flight) (d e : DriveView M) → (n : ℕ) × IsDrive n d.state → Reaches (DriveTakes view) plan k t o d u e → (n : ℕ) × IsDrive n e.state
-Reaches-drive view plan k t u None d e is reaches = subst (λ (d : DriveView _). (n : ℕ) × IsDrive n d.state) (sym reaches.1) is
-Reaches-drive view plan k t u (Some f) d e is reaches = Meets-drive view k t u f (hit (next_fault plan t.crossings) f) d e is reaches
+pub Passage-drive : {M : Type 0} (view : M → MediumView) (plan : List Planned) (k : ℕ) (t u : Trip) (d e : DriveView M) → (n : ℕ) × IsDrive n d.state → Passage (DriveTakes view) plan k t d u e → (n : ℕ) × IsDrive n e.state
+Passage-drive view plan k t u d e is passage =
+    past_party (DriveTakes view) plan k t d (λ u (e : DriveView _). (n : ℕ) × IsDrive n e.state) (λ none. is) (λ f at gone. is) (λ f g out e at came took. ((view e.medium).record_count, took.law)) u e passage
 
 -- ---- what keeps it
 
@@ -151,7 +141,7 @@ round-told : {M : Type 0} (view : M → MediumView) (r s : RingView M) (held : O
 round-told view r s held f answer round is ways way =
     let b = record r.books { held = held } in
     let to_drive = journey_so b 1 (trip_of r.books (Some f)) round.at_drive r.before s.before (starts_so r.books held f is.crossings ways way is.told) round.to_drive in
-    let past = reaches_so b (DriveTakes view) (λ d e f h (takes : DriveTakes view d f (Pass h) e). passes_so (device_of d.state) (device_of e.state) f h takes.takes) (length r.before + 1) round.at_drive round.past_drive round.at_drive.flight r.drive s.drive to_drive to_drive.way round.at in
+    let past = passage_so b (DriveTakes view) (λ d e f h (takes : DriveTakes view d f (Pass h) e). passes_so (device_of d.state) (device_of e.state) f h takes.takes) (length r.before + 1) round.at_drive round.past_drive r.drive s.drive to_drive round.at in
     let home = journey_so b (length r.before + 2) round.past_drive round.behind r.after s.after past round.from_drive in
     subst ShowsPlan (sym round.books) (home_told b round.behind home)
 
@@ -160,7 +150,7 @@ pub IsRing-round : {M : Type 0} (view : M → MediumView) (r s : RingView M) (he
     → HoldsByPlan r.books.plan r.books.begun r.books.crossings held → GoesByPlan r.books.plan r.books.begun r.books.crossings f → IsRing s
 IsRing-round view r s held f answer round is is_held ways way =
     let at_drive = Journey-crossings r.books.plan 1 (trip_of r.books (Some f)) round.at_drive r.before s.before is.crossings round.to_drive in
-    let past_drive = Reaches-crossings (DriveTakes view) r.books.plan (length r.before + 1) round.at_drive round.past_drive round.at_drive.flight r.drive s.drive at_drive round.at in
+    let past_drive = Passage-crossings (DriveTakes view) r.books.plan (length r.before + 1) round.at_drive round.past_drive r.drive s.drive at_drive round.at in
     let behind = Journey-crossings r.books.plan (length r.before + 2) round.past_drive round.behind r.after s.after past_drive round.from_drive in
     let before = before-length view r s held f answer round in
     let after = after-length view r s held f answer round in
@@ -170,7 +160,7 @@ IsRing-round view r s held f answer round is is_held ways way =
       plan = subst IsPlan (sym (round-plan view r s held f answer round)) is.plan;
       crossings = books.crossings;
       held = books.held;
-      drive = Reaches-drive view r.books.plan (length r.before + 1) round.at_drive round.past_drive round.at_drive.flight r.drive s.drive is.drive round.at;
+      drive = Passage-drive view r.books.plan (length r.before + 1) round.at_drive round.past_drive r.drive s.drive is.drive round.at;
       lent = round-lent view r s held f answer round ∙ is.lent;
       kept = round-kept view r s held f answer round ∙ is.kept;
       told = round-told view r s held f answer round is ways way;

@@ -28,8 +28,7 @@ use Rattle.il_ring.specs.Rounded.{IsReady, Rounded, AllTook, holding, device_sen
 use Rattle.il_ring.proofs.Journeys.{Journey-append}
 use Rattle.il_ring.proofs.Ways.{way-self, way-home, home-to, back-home, home-held, come-held, start-held, start-come, start-host}
 use Rattle.il_ring.proofs.Counts.{Framed, entries_to, entries_append, risen_by-add}
-use Rattle.il_ring.proofs.CountSteps.{Stands, hit_same, counted_journey}
-use Rattle.il_ring.specs.Rounded.{IsAwaited}
+use Rattle.il_ring.proofs.CountSteps.{ComesFrom, Stands, hit_same, counted_journey}
 
 -- ---- the journey of a round
 
@@ -60,9 +59,10 @@ round_journey view r s held f answer round =
 -- ---- the way home
 
 -- behind the last device every source lies behind
-behind_all : (k : ℕ) (f : Flight) → (f.source ≤ k) ⊎ IsAwaited k f [] → f.source ≤ k
+behind_all : (k : ℕ) (f : Flight) → ComesFrom k k f [] → f.source ≤ k
 behind_all k f (inl low) = low
-behind_all k f (inr awaited) = absurd (omega (arith, awaited.within))
+behind_all k f (inr (inl awaited)) = absurd (omega (arith, awaited.within))
+behind_all k f (inr (inr beyond)) = beyond.1
 
 from_device : (f : Flight) → (f.source == 0) ≡ false → 1 ≤ f.source
 from_device f other = ⊎_elim (λ zero. let clash = sym other ∙ eq-eqb f.source 0 zero in cc) (λ some. some) (eq-zero-or-pos f.source)
@@ -159,7 +159,7 @@ at_home k held flight b (Some g) f fault answer answered is on hits held_is =
     subst (λ flight. CameHome k b.log b.crossings held flight answer (over_last_link (record b { crossings = risen b.crossings }) f (Some g))) (sym is)
     (came_home k b.crossings b.log held (record b { crossings = risen b.crossings }) f g (g.source == 0) (is_data g.now) answer answered refl on (hit_same fault f g hits).source refl refl refl held_is)
 
-home_is : (k : ℕ) (held flight : Option Flight) (b : BooksView) (answer : Arrival) → answer ≡ arrived (arriving b.plan b.crossings flight) → Stands k flight [] → b.held ≡ held → CameHome k b.log b.crossings held flight answer (home b flight)
+home_is : (k : ℕ) (held flight : Option Flight) (b : BooksView) (answer : Arrival) → answer ≡ arrived (arriving b.plan b.crossings flight) → Stands k k flight [] → b.held ≡ held → CameHome k b.log b.crossings held flight answer (home b flight)
 home_is k held None b answer answered at held_is = record {
   entries = [];
   log_is = sym (append-nil b.log);
@@ -179,9 +179,9 @@ start_within : (k : ℕ) (f : Flight) (ds : List DeviceState) → length ds ≡ 
 start_within k f ds all (inl host) = omega (arith, host)
 start_within k f ds all (inr awaited) = omega (arith, awaited.there, awaited.within, all)
 
-start_stands : (f : Flight) (ds : List DeviceState) → IsReady f ds → Stands 0 (Some f) ds
-start_stands f ds (inl host) = inl (omega (arith, host))
-start_stands f ds (inr awaited) = inr awaited
+start_stands : (k : ℕ) (f : Flight) (ds : List DeviceState) → IsReady f ds → Stands k 0 (Some f) ds
+start_stands k f ds (inl host) = inl (omega (arith, host))
+start_stands k f ds (inr awaited) = inr (inl awaited)
 
 -- the links and the frames that stand for the part of its trip before
 start_links : (k : ℕ) (f : Flight) (own : Bool) → (f.source == 0) ≡ own → f.source ≤ k → way k f.source 0 ≡ held_links k (if own then None else Some f.source)
@@ -208,9 +208,10 @@ round_counts view r s held f answer ready round =
     let k = length (devices_of r) in
     let sending = device_sending f in
     let t = round.behind in
-    let out = counted_journey r.books.plan k 0 (trip_of r.books (Some f)) t (devices_of r) (devices_of s) (omega arith) (start_stands f (devices_of r) ready) (round_journey view r s held f answer round) in
+    let out = counted_journey r.books.plan k 0 (trip_of r.books (Some f)) t (devices_of r) (devices_of s) (omega arith) (start_stands k f (devices_of r) ready) (round_journey view r s held f answer round) in
     let c = out.0 in
-    let last = home_is k held t.flight (books_at (record r.books { held = held }) t) answer round.answer_is out.1 refl in
+    let all : 0 + length (devices_of r) ≡ k = omega arith in
+    let last = home_is k held t.flight (books_at (record r.books { held = held }) t) answer round.answer_is (subst (λ j. Stands k j t.flight []) all out.1) refl in
     let on : f.source ≤ k = start_within k f (devices_of r) refl ready in
     let far : 0 + length (devices_of r) ≡ k = omega arith in
     let log : s.books.log ≡ t.log ++ last.entries = ap (λ (b : BooksView). b.log) round.books ∙ last.log_is in

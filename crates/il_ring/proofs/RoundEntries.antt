@@ -30,12 +30,13 @@ use Rattle.il_ring.specs.declared.flight.Flight.{Flight}
 use Rattle.il_ring.specs.Plans.{next_fault}
 use Rattle.il_ring.specs.Flights.{hit, lost_at, ended_at}
 use Rattle.il_ring.specs.Books.{BooksView}
-use Rattle.il_ring.specs.Journeys.{Trip, trip_of, answered, Meets, Reaches, Journey}
+use Rattle.il_ring.specs.Journeys.{Trip, trip_of, answered, Passage, Journey}
 use Rattle.il_ring.specs.Rings.{RingView, Round, books_at, comes, devices_of, home, over_last_link}
 use Rattle.il_ring.specs.Turned.{is_on, is_auto_address, gives_no_address, own_roles_entry, own_roles}
 use Rattle.il_ring.proofs.CountSteps.{hit_same}
 use Rattle.il_ring.proofs.RoundCounts.{round_journey}
-use Rattle.il_ring.proofs.TurnedCounts.{on_back, on_taken, on_lost}
+use Rattle.il_ring.proofs.TurnedRoles.{on_back, on_taken, on_lost}
+use Rattle.il_ring.proofs.Journeys.{past_party}
 
 -- what is true of the entries of a round that begins with the flight f, on a ring of n devices
 pub record TellsRound (n : ℕ) (f : Flight) (entries : List Entry) : Type 0 where
@@ -184,25 +185,18 @@ answered_tells : (n : ℕ) (f : Flight) (log now : List Entry) (k c : ℕ) (g : 
 answered_tells n f log now k c g (Pass h) d e some there takes tells = goes_on n f log now g (record g { now = h }) refl refl tells
 answered_tells n f log now k c g (Source h) d e some there takes tells = inr (record { some = some; within = there; says = sent_spoken d e g.now h takes }, ends_there n f log now g k there tells)
 
-met_tells : (n : ℕ) (f : Flight) (log : List Entry) (plan : List Planned) (k : ℕ) (t : Trip) (g : Flight) (o : Option Flight) (d e : DeviceState) (u : Trip) → 1 ≤ k → k ≤ n
-    → hit (next_fault plan t.crossings) g ≡ o → Tells n f log t.log (Some g) → Meets Takes k t g o d u e → Tells n f log u.log u.flight
-met_tells n f log plan k t g None d e u some there is tells met = subst (λ (u : Trip). Tells n f log u.log u.flight) (sym met.0) (lost_there n f log t.log g k there tells)
-met_tells n f log plan k t g (Some h) d e u some there is tells met =
-    let same = hit_same (next_fault plan t.crossings) g h is in
-    subst (λ (u : Trip). Tells n f log u.log u.flight) (sym met.2)
-    (answered_tells n f log t.log k (risen t.crossings) h met.0 d e some there met.1 (goes_on n f log t.log g h same.source same.sent tells))
-
-reached_tells : (n : ℕ) (f : Flight) (log : List Entry) (plan : List Planned) (k : ℕ) (t : Trip) (o : Option Flight) (d e : DeviceState) (u : Trip) → 1 ≤ k → k ≤ n
-    → t.flight ≡ o → Tells n f log t.log o → Reaches Takes plan k t o d u e → Tells n f log u.log u.flight
-reached_tells n f log plan k t None d e u some there is tells reached =
-    subst (λ (u : Trip). Tells n f log u.log u.flight) (sym reached.0) (subst (λ o. Tells n f log t.log o) (sym is) tells)
-reached_tells n f log plan k t (Some g) d e u some there is tells reached = met_tells n f log plan k t g (hit (next_fault plan t.crossings) g) d e u some there refl tells reached
+passage_tells : (n : ℕ) (f : Flight) (log : List Entry) (plan : List Planned) (k : ℕ) (t u : Trip) (d e : DeviceState) → 1 ≤ k → k ≤ n → Tells n f log t.log t.flight → Passage Takes plan k t d u e → Tells n f log u.log u.flight
+passage_tells n f log plan k t u d e some there tells passage =
+    let its : (g : Flight) → t.flight ≡ Some g → Tells n f log t.log (Some g) = λ g is. subst (λ o. Tells n f log t.log o) is tells in
+    past_party Takes plan k t d (λ u e. Tells n f log u.log u.flight) (λ is. tells) (λ g is gone. lost_there n f log t.log g k there (its g is))
+    (λ g h out e is came takes. let same = hit_same (next_fault plan t.crossings) g h came in answered_tells n f log t.log k (risen t.crossings) h out d e some there takes (goes_on n f log t.log g h same.source same.sent (its g is)))
+    u e passage
 
 journey_tells : (n : ℕ) (f : Flight) (log : List Entry) (plan : List Planned) (k : ℕ) (t u : Trip) (ds es : List DeviceState) → 1 ≤ k → k + length ds ≤ n + 1
     → Tells n f log t.log t.flight → Journey plan k t ds u es → Tells n f log u.log u.flight
 journey_tells n f log plan k t u [] [] some there tells journey = subst (λ (u : Trip). Tells n f log u.log u.flight) (sym journey) tells
 journey_tells n f log plan k t u (d ∷ ds) (e ∷ es) some there tells journey =
-    let one = reached_tells n f log plan k t t.flight d e journey.0 some (omega (arith, there)) refl tells journey.1 in
+    let one = passage_tells n f log plan k t journey.0 d e some (omega (arith, there)) tells journey.1 in
     journey_tells n f log plan (k + 1) journey.0 u ds es (omega arith) (omega (arith, there)) one journey.2
 journey_tells n f log plan k t u [] (e ∷ es) some there tells journey = absurd journey
 journey_tells n f log plan k t u (d ∷ ds) [] some there tells journey = absurd journey

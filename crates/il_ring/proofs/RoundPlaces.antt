@@ -1,5 +1,5 @@
 -- What a round does to the places in the parallel poll, where it carries no poll message: nothing.
-use Rattle.std.proofs.Common.{◌≡◌, ◌≤◌, ◌+◌, ◌++◌, ◌==◌, ℕ, suc, Bool, true, false, List, [], ◌∷◌, Option, Some, None, length, refl, sym, ap, subst, ◌∙◌, arith}
+use Rattle.std.proofs.Common.{◌≡◌, ◌≤◌, ◌++◌, ◌==◌, ℕ, suc, Bool, true, false, List, [], ◌∷◌, Option, Some, None, length, refl, sym, ap, subst, ◌∙◌, arith}
 use Rattle.std.specs.Prelude.{if◌then◌else◌}
 use Rattle.std.specs.List.{list_all}
 use Rattle.std.proofs.lemmas.Bool.{and_parts, not-true}
@@ -27,13 +27,14 @@ use Rattle.il_ring.specs.declared.plan.PlanFault.{PlanFault}
 use Rattle.il_ring.specs.declared.flight.Flight.{Flight}
 use Rattle.il_ring.specs.Plans.{next_fault}
 use Rattle.il_ring.specs.Flights.{sourced, hit}
-use Rattle.il_ring.specs.Journeys.{Trip, trip_of, answered, Meets, Reaches, Journey, is_identify_class}
+use Rattle.il_ring.specs.Journeys.{Trip, trip_of, answered, Passage, Journey, is_identify_class}
 use Rattle.il_ring.specs.Lists.{First}
 use Rattle.il_ring.specs.Polls.{is_poll, is_no_poll, KeepsPlace}
 use Rattle.il_ring.specs.Rings.{RingView, Round, devices_of}
 use Rattle.il_ring.proofs.Passing.{Carries, Exactly, AsData, AsIdentify, carries_on}
 use Rattle.il_ring.proofs.RoundCounts.{round_journey}
 use Rattle.il_ring.proofs.RoundRoles.{IsQuiet, hit_carries, sent_quiet}
+use Rattle.il_ring.proofs.Journeys.{past_devices, past_party}
 
 -- ---- messages that are no poll messages
 
@@ -89,37 +90,26 @@ quiet_unpolled f quiet = record { message = quiet.message; no_poll = quiet.no_po
 unpolled_hit : (fault : Option PlanFault) (f g : Flight) → IsUnpolled f → hit fault f ≡ Some g → IsUnpolled g
 unpolled_hit fault f g unpolled is = record { message = unpolled.message; no_poll = unpolled.no_poll; carries = hit_carries unpolled.message fault f g unpolled.carries is }
 
-unpolled_answered : (k n : ℕ) (log : List Entry) (g : Flight) (out : Out) (d e : DeviceState) → 1 ≤ k → IsUnpolled g → Takes d g.now out e → KeepsPlace d e × AreUnpolled (answered n log k g out).flight
+unpolled_answered : (k n : ℕ) (log : List Entry) (g : Flight) (out : Out) (d e : DeviceState) → 1 ≤ k → IsUnpolled g → Takes d g.now out e → AreUnpolled (answered n log k g out).flight × KeepsPlace d e
 unpolled_answered k n log g (Pass h) d e some unpolled takes = (
-  carried_place unpolled.message d e g.now (Pass h) unpolled.carries unpolled.no_poll takes,
   record {
     message = passed_on unpolled.message d.roles;
     no_poll = passed_no_poll unpolled.message d.roles unpolled.no_poll;
     carries = carries_on unpolled.message d e g.now h unpolled.carries takes;
   },
+  carried_place unpolled.message d e g.now (Pass h) unpolled.carries unpolled.no_poll takes,
 )
 unpolled_answered k n log g (Source h) d e some unpolled takes = (
-  carried_place unpolled.message d e g.now (Source h) unpolled.carries unpolled.no_poll takes,
   quiet_unpolled (sourced k h) (sent_quiet k d e g.now h some takes),
+  carried_place unpolled.message d e g.now (Source h) unpolled.carries unpolled.no_poll takes,
 )
 
-unpolled_met : (plan : List Planned) (k : ℕ) (t : Trip) (f : Flight) (o : Option Flight) (d e : DeviceState) (u : Trip) → 1 ≤ k → IsUnpolled f → hit (next_fault plan t.crossings) f ≡ o → Meets Takes k t f o d u e → KeepsPlace d e × AreUnpolled u.flight
-unpolled_met plan k t f None d e u some unpolled is met = (ap (λ (d : DeviceState). d.assignment) met.1, subst AreUnpolled (ap (λ (u : Trip). u.flight) (sym met.0)) tt)
-unpolled_met plan k t f (Some g) d e u some unpolled is met =
-    let one = unpolled_answered k (risen t.crossings) t.log g met.0 d e some (unpolled_hit (next_fault plan t.crossings) f g unpolled is) met.1 in
-    (one.0, subst AreUnpolled (ap (λ (u : Trip). u.flight) (sym met.2)) one.1)
-
-unpolled_reached : (plan : List Planned) (k : ℕ) (t : Trip) (o : Option Flight) (d e : DeviceState) (u : Trip) → 1 ≤ k → t.flight ≡ o → AreUnpolled o → Reaches Takes plan k t o d u e → KeepsPlace d e × AreUnpolled u.flight
-unpolled_reached plan k t None d e u some is unpolled reached = (ap (λ (d : DeviceState). d.assignment) reached.1, subst AreUnpolled (sym is ∙ ap (λ (u : Trip). u.flight) (sym reached.0)) tt)
-unpolled_reached plan k t (Some f) d e u some is unpolled reached = unpolled_met plan k t f (hit (next_fault plan t.crossings) f) d e u some unpolled refl reached
+unpolled_past : (plan : List Planned) (k : ℕ) (t u : Trip) (d e : DeviceState) → 1 ≤ k → AreUnpolled t.flight → Passage Takes plan k t d u e → AreUnpolled u.flight × KeepsPlace d e
+unpolled_past plan k t u d e some unpolled passage = past_party Takes plan k t d (λ u e. AreUnpolled u.flight × KeepsPlace d e) (λ is. (unpolled, refl)) (λ f is gone. (tt, refl))
+    (λ f g out e is came takes. unpolled_answered k (risen t.crossings) t.log g out d e some (unpolled_hit (next_fault plan t.crossings) f g (subst AreUnpolled is unpolled) came) takes) u e passage
 
 journey_places : (plan : List Planned) (k : ℕ) (t u : Trip) (ds es : List DeviceState) → 1 ≤ k → AreUnpolled t.flight → Journey plan k t ds u es → First KeepsPlace (length ds) ds es
-journey_places plan k t u [] [] some unpolled journey = tt
-journey_places plan k t u (d ∷ ds) (e ∷ es) some unpolled journey =
-    let one = unpolled_reached plan k t t.flight d e journey.0 some refl unpolled journey.1 in
-    (one.0, journey_places plan (k + 1) journey.0 u ds es (omega arith) one.1 journey.2)
-journey_places plan k t u [] (e ∷ es) some unpolled journey = absurd journey
-journey_places plan k t u (d ∷ ds) [] some unpolled journey = absurd journey
+journey_places plan k t u ds es some unpolled journey = (past_devices plan 1 (λ k t. AreUnpolled t.flight) KeepsPlace (λ k t u d e some unpolled passage. unpolled_past plan k t u d e some unpolled passage) k t u ds es some unpolled journey).1
 
 -- each device has the place that it had
 pub round_places : {M : Type 0} (view : M → MediumView) (r s : RingView M) (held : Option Flight) (f : Flight) (answer : Arrival) → IsUnpolled f → Round view r held f answer s → First KeepsPlace (length (devices_of r)) (devices_of r) (devices_of s)

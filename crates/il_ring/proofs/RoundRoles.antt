@@ -29,12 +29,13 @@ use Rattle.il_ring.specs.declared.plan.PlanFault.TheVariants.{Lose, Alter}
 use Rattle.il_ring.specs.declared.flight.Flight.{Flight}
 use Rattle.il_ring.specs.Plans.{next_fault}
 use Rattle.il_ring.specs.Flights.{sourced, altered_by, hit, lost_at, ended_at}
-use Rattle.il_ring.specs.Journeys.{Trip, answered, Meets, Reaches, Journey, is_exact, is_identify_class}
+use Rattle.il_ring.specs.Journeys.{Trip, answered, Passage, Journey, is_exact, is_identify_class}
 use Rattle.il_ring.specs.Rings.{roles_of}
 use Rattle.il_ring.specs.Polls.{is_poll}
 use Rattle.il_ring.specs.Outcomes.{is_other}
 use Rattle.il_ring.proofs.CountSteps.{hit_same}
 use Rattle.il_ring.proofs.Passing.{Carries, Exactly, AsData, AsIdentify, keeps_on, kept_by, carries_on, carried_roles}
+use Rattle.il_ring.proofs.Journeys.{past_party}
 
 -- ---- what a link leaves of what a frame says
 
@@ -178,32 +179,19 @@ quiet_answered k n log t g (Source h) d e some same quiet takes = record {
   quiet = sent_quiet k d e g.now h some takes;
 }
 
-quiet_met : (plan : List Planned) (k : ℕ) (t : Trip) (f : Flight) (o : Option Flight) (d e : DeviceState) (u : Trip) → 1 ≤ k → IsQuiet f → hit (next_fault plan t.crossings) f ≡ o → Meets Takes k t f o d u e → LeavesRoles t (d ∷ []) u (e ∷ [])
-quiet_met plan k t f None d e u some quiet is met = record {
-  entries = lost_at f k ∷ [];
-  log = ap (λ (u : Trip). u.log) met.0;
-  others = and_from (not (f.source == 0)) true (other_source f.source quiet.from_device) refl;
-  roles = ap (λ d. d.roles ∷ []) met.1;
-  quiet = subst AreQuiet (ap (λ (u : Trip). u.flight) (sym met.0)) tt;
-}
-quiet_met plan k t f (Some g) d e u some quiet is met =
-    subst (λ u. LeavesRoles t (d ∷ []) u (e ∷ [])) (sym met.2) (quiet_answered k (risen t.crossings) t.log t g met.0 d e some refl (quiet_hit (next_fault plan t.crossings) f g quiet is) met.1)
-
-quiet_reached : (plan : List Planned) (k : ℕ) (t : Trip) (o : Option Flight) (d e : DeviceState) (u : Trip) → 1 ≤ k → t.flight ≡ o → AreQuiet o → Reaches Takes plan k t o d u e → LeavesRoles t (d ∷ []) u (e ∷ [])
-quiet_reached plan k t None d e u some is quiet reached = record {
-  entries = [];
-  log = ap (λ (u : Trip). u.log) reached.0 ∙ sym (append-nil t.log);
-  others = refl;
-  roles = ap (λ d. d.roles ∷ []) reached.1;
-  quiet = subst AreQuiet (sym is ∙ ap (λ (u : Trip). u.flight) (sym reached.0)) tt;
-}
-quiet_reached plan k t (Some f) d e u some is quiet reached = quiet_met plan k t f (hit (next_fault plan t.crossings) f) d e u some quiet refl reached
+quiet_past : (plan : List Planned) (k : ℕ) (t u : Trip) (d e : DeviceState) → 1 ≤ k → AreQuiet t.flight → Passage Takes plan k t d u e → LeavesRoles t (d ∷ []) u (e ∷ [])
+quiet_past plan k t u d e some quiet passage =
+    let its : (f : Flight) → t.flight ≡ Some f → IsQuiet f = λ f is. subst AreQuiet is quiet in
+    past_party Takes plan k t d (λ u e. LeavesRoles t (d ∷ []) u (e ∷ []))
+    (λ is. record { entries = []; log = sym (append-nil t.log); others = refl; roles = refl; quiet = quiet })
+    (λ f is gone. record { entries = lost_at f k ∷ []; log = refl; others = and_from (not (f.source == 0)) true (other_source f.source (its f is).from_device) refl; roles = refl; quiet = tt })
+    (λ f g out e is came takes. quiet_answered k (risen t.crossings) t.log t g out d e some refl (quiet_hit (next_fault plan t.crossings) f g (its f is) came) takes) u e passage
 
 -- behind a device that sent a frame, and where the frame was lost, the roles stay
 pub leaves_roles : (plan : List Planned) (k : ℕ) (t u : Trip) (ds es : List DeviceState) → 1 ≤ k → AreQuiet t.flight → Journey plan k t ds u es → LeavesRoles t ds u es
 leaves_roles plan k t u [] [] some quiet journey = subst (λ u. LeavesRoles t [] u []) (sym journey) (leaves_none t quiet)
 leaves_roles plan k t u (d ∷ ds) (e ∷ es) some quiet journey =
-    let one = quiet_reached plan k t t.flight d e journey.0 some refl quiet journey.1 in
+    let one = quiet_past plan k t journey.0 d e some quiet journey.1 in
     leaves_append t journey.0 u d e ds es one (leaves_roles plan (k + 1) journey.0 u ds es (omega arith) one.quiet journey.2)
 leaves_roles plan k t u [] (e ∷ es) some quiet journey = absurd journey
 leaves_roles plan k t u (d ∷ ds) [] some quiet journey = absurd journey

@@ -1,5 +1,5 @@
 -- How the entries of a log ended: as the faults made it that were planned at the crossings met while the log was written.
-use Rattle.std.specs.Prelude.{◌≡◌, ◌⊎◌, ◌<◌, ◌≤◌, ◌==◌, ◌&&◌, not, ℕ, Bool, true, false, List, MatchBool, Option, Some, None, bit_xor}
+use Rattle.std.specs.Prelude.{◌≡◌, ◌⊎◌, ◌<◌, ◌≤◌, ℕ, true, false, List, MatchBool, Option, Some, None, bit_xor}
 use Rattle.std.specs.List.{All}
 use Rattle.il_frames.specs.declared.frame.Frame.{Frame}
 use Rattle.il_frames.specs.declared.entry.Entry.{Entry}

@@ -71,6 +71,10 @@ fresh_books plan room = record { plan = plan; crossings = 0; begun = 0; log = []
 abbrev pub ring_emptied : {M : Type 0} → RingView M → RingView M
 ring_emptied r = record r { books = books_emptied r.books }
 
+-- with this frame at the host, or none
+abbrev pub with_held : {M : Type 0} → RingView M → Option Flight → RingView M
+with_held r held = record r { books = record r.books { held = held } }
+
 -- ---- the printer
 
 -- the accessory ID of a printer

@@ -7,7 +7,7 @@ ghost use Rattle.il_frames.specs.Frames.{is_data};
 ghost use Rattle.il_ring.specs.Rings.{fresh_books, home, comes, arrived, arriving};
 ghost use Rattle.il_ring.specs.Lending.{before_last, lent_home, lent_lost, lending_ended};
 
-use crate::flight::Flight;
+use crate::flight::{Flight, Standing};
 use crate::plan::{Arrival, PlanFault, Planned};
 use il_frames::{Entry, Frame};
 use std::alloc::{AllocError, Global};
@@ -118,7 +118,13 @@ impl Books {
         ensures held { IsHeld result }
         ensures released { self.new ≡ record self.old { held = None } }
     {
-        self.held.take()
+        // Not `Option::take`, which copies the flight as a whole: `Flight::again` says why that is slow.
+        let held = match &self.held {
+            None => return None,
+            Some(flight) => flight.again(),
+        };
+        self.held = None;
+        Some(held)
     }
 
     /// Appends the entry of a frame that ended at a party.
@@ -130,25 +136,13 @@ impl Books {
         self.note(flight.ended_at(party));
     }
 
-    /// The frame ends at a party, which sends one of its own in its place.
-    #[inline(always)]
-    pub fn replace(&mut self, flight: &mut Flight, party: u8, frame: Frame)
-        requires { length self.old.log < self.old.room }
-        ensures ended { self.new ≡ record self.old { log = self.old.log ++ ended_at flight.old party ∷ [] } }
-        ensures sent { flight.new ≡ sourced party frame }
-    {
-        self.finish(*flight, party);
-        *flight = Flight::sourced(party, frame);
-    }
-
     /// The same. It stands apart, so that the way of a frame that is passed on stays short.
     #[inline(never)]
-    pub fn replace_apart(&mut self, flight: &mut Flight, party: u8, frame: Frame)
+    pub fn finish_apart(&mut self, flight: Flight, party: u8)
         requires { length self.old.log < self.old.room }
-        ensures ended { self.new ≡ record self.old { log = self.old.log ++ ended_at flight.old party ∷ [] } }
-        ensures sent { flight.new ≡ sourced party frame }
+        ensures { self.new ≡ record self.old { log = self.old.log ++ ended_at flight party ∷ [] } }
     {
-        self.replace(flight, party, frame);
+        self.note(flight.ended_at(party));
     }
 
     /// The frame crosses the link to a party. `None` where it is lost there, which its entry says.
@@ -272,6 +266,44 @@ impl Books {
         Arrival::Frame(flight.now)
     }
 
+    /// The same, but the frame that is held then is returned, and the one that was held before is dropped.
+    #[inline(always)]
+    pub fn come_clear(&mut self, flight: Flight) -> Standing
+        requires room { length self.old.log < self.old.room }
+        requires clear { IsClear self.old.plan self.old.crossings 1 }
+        ensures books { record self.new { held = result } ≡ home (record self.old { held = None }) (Some flight) }
+        ensures answer { arrived (Some flight) ≡ arrived (arriving self.old.plan self.old.crossings (Some flight)) }
+    {
+        self.cross_clear();
+        if flight.source == 0 || !flight.now.is_data() {
+            // A copy, so that the flight itself needs no address and stays in registers.
+            let last = flight;
+            self.finish_apart(last, 0);
+            return Standing { flight: None };
+        }
+        // It is copied field by field, as the next round reads it.
+        Standing {
+            flight: Some(flight.again()),
+        }
+    }
+
+    /// Returns the held frame, which is no longer held.
+    pub fn hand_out(&mut self) -> Standing
+        ensures { self.old ≡ record self.new { held = result } }
+    {
+        Standing {
+            flight: self.take_held(),
+        }
+    }
+
+    /// Holds this frame, or none.
+    #[inline(always)]
+    pub fn stand(&mut self, standing: Standing)
+        ensures { self.new ≡ record self.old { held = standing } }
+    {
+        self.held = standing.flight;
+    }
+
     /// The frame has come to the host.
     #[inline(always)]
     fn come(&mut self, flight: Flight)
@@ -281,7 +313,8 @@ impl Books {
         if flight.source == 0 {
             self.finish(flight, 0);
         } else if flight.now.is_data() {
-            self.held = Some(flight);
+            // It is copied field by field, as `take_held` reads it in the next round.
+            self.held = Some(flight.again());
         } else {
             self.finish(flight, 0);
             self.held = None;

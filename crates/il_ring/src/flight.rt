@@ -1,9 +1,11 @@
 ghost use Rattle.std.specs.Prelude.{◌≡◌, Some};
 ghost use Rattle.il_ring.specs.declared.plan.PlanFault.TheVariants.{Alter};
 ghost use Rattle.il_ring.specs.Flights.{sourced, altered_by, hit, lost_at, ended_at};
+ghost use Rattle.il_ring.specs.Books.{IsHeld};
 
 use crate::plan::PlanFault;
 use il_frames::{Entry, Frame, Outcome};
+use std::marker::Model;
 
 /// A frame on its way. It is public because contracts see the held frame as one; a ring hands out
 /// none.
@@ -30,6 +32,22 @@ impl Flight {
             sent: frame,
             now: frame,
             altered: false,
+        }
+    }
+
+    /// The same flight, copied field by field, as a flight is written when it is sent. A copy of the whole would load
+    /// several fields at once while their stores are still under way. A processor cannot forward a load from two
+    /// stores: it waits until both are done. A field that is read with the width that it was written with is forwarded
+    /// at once.
+    #[inline(always)]
+    pub(crate) fn again(&self) -> Flight
+        ensures { result ≡ self.entry.now }
+    {
+        Flight {
+            source: self.source,
+            sent: Frame::new(self.sent.class(), self.sent.byte()),
+            now: Frame::new(self.now.class(), self.now.byte()),
+            altered: self.altered,
         }
     }
 
@@ -84,5 +102,34 @@ impl Flight {
             frame: self.sent,
             outcome,
         }
+    }
+}
+
+/// A frame that is held at the host outside of the books, or none.
+#[derive(Drop)]
+pub(crate) struct Standing {
+    pub flight: Option<Flight>,
+}
+
+impl Model for Standing {
+    ghost use Rattle.std.specs.Prelude.{Option};
+    ghost use Rattle.il_ring.specs.declared.flight.Flight.{Flight};
+    ghost use Rattle.il_ring.specs.Books.{IsHeld};
+
+    ghost Value = { Option Flight };
+
+    ghost view = { λ s. s.flight };
+
+    ghost invariant = { λ s. IsHeld s.flight };
+}
+
+impl Standing {
+    /// The frame.
+    #[inline(always)]
+    pub fn flight(&self) -> Option<Flight>
+        ensures flight { result ≡ self.now }
+        ensures held { IsHeld result }
+    {
+        self.flight
     }
 }

@@ -16,9 +16,11 @@ mod paper;
 mod plan;
 mod rig;
 mod ring;
+mod running;
 mod walk;
 
 pub use flight::Flight;
 pub use plan::{Arrival, PlanFault, Planned, is_plan};
 pub use rig::{Refused, Rig};
 pub use ring::{Ring, Seen};
+pub use running::Running;

@@ -11,7 +11,7 @@ ghost use Rattle.il_ring.specs.declared.plan.Arrival.TheVariants as arrival;
 ghost use Rattle.il_ring.specs.Plans.{IsPlan};
 ghost use Rattle.il_ring.specs.Books.{IsClear};
 ghost use Rattle.il_ring.specs.Flights.{sourced};
-ghost use Rattle.il_ring.specs.Rings.{RingView, IsRing, Round, devices_of, roles_of, drive_party, spare_of, fresh_books, ring_emptied, paper_of};
+ghost use Rattle.il_ring.specs.Rings.{RingView, IsRing, Round, devices_of, roles_of, drive_party, spare_of, fresh_books, ring_emptied, with_held, paper_of};
 ghost use Rattle.il_ring.specs.Guests.{guest_devices, guest_mind, MayBeGuest, StandsLast, IsUnderHost};
 ghost use Rattle.il_ring.specs.Lending.{HostKeeps, IsLed, LedRound, StandsNow, TakenBack};
 ghost use Rattle.il_ring.specs.Lending.{going_on, hands_over, leads, about_to_send};
@@ -25,7 +25,7 @@ ghost use Rattle.il_ring.specs.Rounded.{Rounded, IsReady};
 ghost use Rattle.il_ring.specs.Outcomes.{Returned, WasLost, DataReturned, DataBroken, StartReturned, StartGone, StartTaken, AllKeep, IsTalking, StoodSo, Relayed};
 
 use crate::books::Books;
-use crate::flight::Flight;
+use crate::flight::{Flight, Standing};
 use crate::last::Last;
 use crate::paper::paper_in;
 use crate::plan::{Arrival, Planned};
@@ -50,6 +50,12 @@ pub(crate) struct Boxes {
     pub after: Vec<Box<dyn Device>>,
     pub last: Last,
     ghost few: { length before.items + length after.items + length (guest_devices last) ≤ 29 },
+}
+
+/// What arrived at the host, and the frame that is held there then.
+pub(crate) struct Came {
+    pub arrival: Arrival,
+    pub standing: Standing,
 }
 
 /// What a ring consists of.
@@ -79,7 +85,7 @@ impl<M: Medium> Parts<M> {
 /// log. It takes memory in `new` alone. Its parts stand in a box, so that a ring is moved at the cost of a pointer.
 #[derive(Drop)]
 pub struct Ring<M: Medium> {
-    parts: Box<Parts<M>>,
+    pub(crate) parts: Box<Parts<M>>,
 }
 
 impl<M: Medium> Seen<M> for Ring<M> {
@@ -300,6 +306,24 @@ impl<M: Medium> Ring<M> {
         self.round(Flight::sourced(0, frame))
     }
 
+    /// The same, if the host controls the loop and no frame is held. If nothing is planned, the frame takes a fast
+    /// path, which is inlined for the bytes of a record: the flight is not written to memory, and no lending is looked
+    /// for.
+    #[inline(always)]
+    pub fn send_soon(&mut self, frame: Frame) -> Arrival
+        requires room { 32 ≤ spare_of (⟦<Ring<M> as Seen<M>>⟧.seen self.old) }
+        requires free { (⟦<Ring<M> as Seen<M>>⟧.seen self.old).books.held ≡ None }
+        requires leads { IsUnderHost (⟦<Ring<M> as Seen<M>>⟧.seen self.old).guest }
+        ensures { HostKeeps (⟦<Ring<M> as Seen<M>>⟧.seen self.old) frame →
+            Round M.view (⟦<Ring<M> as Seen<M>>⟧.seen self.old) (⟦<Ring<M> as Seen<M>>⟧.seen self.old).books.held (sourced 0 frame) result (⟦<Ring<M> as Seen<M>>⟧.seen self.new) }
+    {
+        if self.is_clear() {
+            self.round_clear(Flight::sourced(0, frame))
+        } else {
+            self.send(frame)
+        }
+    }
+
     /// Where a second controller controls, what was lent ends.
     fn end_lending(&mut self)
         requires { 2 ≤ spare_of (⟦<Ring<M> as Seen<M>>⟧.seen self.old) }
@@ -388,7 +412,9 @@ impl<M: Medium> Ring<M> {
         if self.is_clear() {
             self.round_clear(flight)
         } else {
-            self.round_apart(flight)
+            // A copy for the call, so that `flight` itself needs no address and stays in registers on the fast path.
+            let apart = flight;
+            self.round_apart(apart)
         }
     }
 
@@ -416,11 +442,63 @@ impl<M: Medium> Ring<M> {
             drive,
             books,
         } = &mut *self.parts;
-        let mut on = flight;
-        walk_past_clear(&mut boxes.before, 1, books, &mut on);
-        pass_drive_clear(drive, party, books, &mut on);
-        walk_past_clear(&mut boxes.after, party + 1, books, &mut on);
+        let on = walk_past_clear(&mut boxes.before, 1, books, flight);
+        let on = pass_drive_clear(drive, party, books, on);
+        let on = walk_past_clear(&mut boxes.after, party + 1, books, on);
         books.home_clear(on)
+    }
+
+    /// A frame goes round. The frame that is held then is returned and not kept in the books, so that it can stay in
+    /// registers until it goes on. The one that was held before is dropped.
+    #[inline(always)]
+    pub(crate) fn round_on(&mut self, flight: Flight) -> Came
+        requires room { 32 ≤ spare_of (⟦<Ring<M> as Seen<M>>⟧.seen self.old) }
+        ensures { LedRound M.view (with_held (⟦<Ring<M> as Seen<M>>⟧.seen self.old) None) flight result.arrival (with_held (⟦<Ring<M> as Seen<M>>⟧.seen self.new) result.standing) }
+    {
+        if self.is_clear() {
+            self.round_on_clear(flight)
+        } else {
+            // A copy, as in `round`.
+            let apart = flight;
+            self.round_on_apart(apart)
+        }
+    }
+
+    /// The same, if nothing is planned and there is no second controller.
+    #[inline(always)]
+    fn round_on_clear(&mut self, flight: Flight) -> Came
+        requires room { 32 ≤ spare_of (⟦<Ring<M> as Seen<M>>⟧.seen self.old) }
+        requires way { IsClear (⟦<Ring<M> as Seen<M>>⟧.seen self.old).books.plan (⟦<Ring<M> as Seen<M>>⟧.seen self.old).books.crossings 31 }
+        requires alone { (⟦<Ring<M> as Seen<M>>⟧.seen self.old).guest ≡ None }
+        ensures { LedRound M.view (with_held (⟦<Ring<M> as Seen<M>>⟧.seen self.old) None) flight result.arrival (with_held (⟦<Ring<M> as Seen<M>>⟧.seen self.new) result.standing) }
+    {
+        let party = self.party();
+        let Parts {
+            boxes,
+            drive,
+            books,
+        } = &mut *self.parts;
+        let on = walk_past_clear(&mut boxes.before, 1, books, flight);
+        let on = pass_drive_clear(drive, party, books, on);
+        let on = walk_past_clear(&mut boxes.after, party + 1, books, on);
+        Came {
+            arrival: Arrival::Frame(on.now),
+            standing: books.come_clear(on),
+        }
+    }
+
+    /// The same in every case.
+    #[inline(never)]
+    fn round_on_apart(&mut self, flight: Flight) -> Came
+        requires room { 32 ≤ spare_of (⟦<Ring<M> as Seen<M>>⟧.seen self.old) }
+        ensures { LedRound M.view (with_held (⟦<Ring<M> as Seen<M>>⟧.seen self.old) None) flight result.arrival (with_held (⟦<Ring<M> as Seen<M>>⟧.seen self.new) result.standing) }
+    {
+        self.parts.books.take_held();
+        let arrival = self.round_apart(flight);
+        Came {
+            arrival,
+            standing: self.parts.books.hand_out(),
+        }
     }
 
     /// A frame goes round, whatever it meets.

@@ -99,18 +99,22 @@ pub(crate) fn walk_past<D: Device>(
 
 // ---- where nothing is planned
 
+// Here a flight goes to each hop by value and comes back by value. Behind a `&mut` it would stand in memory, where
+// each hop writes its frame and the next reads it by another width, which the processor cannot forward: see
+// `Flight::again`.
+
 /// A frame crosses a link at which nothing is planned, and is taken by the device behind it.
 #[inline(always)]
-fn pass_clear<D: Device>(device: &mut D, party: u8, books: &mut Books, flight: &mut Flight)
+fn pass_clear<D: Device>(device: &mut D, party: u8, books: &mut Books, flight: Flight) -> Flight
     requires room { length books.old.log < books.old.room }
     requires clear { IsClear books.old.plan books.old.crossings 1 }
-    ensures passage { Passage Takes books.old.plan party (trip_of books.old (Some flight.old)) (D.state device.old) (trip_of books.new (Some flight.new)) (D.state device.new) }
+    ensures passage { Passage Takes books.old.plan party (trip_of books.old (Some flight)) (D.state device.old) (trip_of books.new (Some result)) (D.state device.new) }
     ensures books { KeepsBooks 1 books.old books.new }
     ensures counted { books.new.crossings ≡ books.old.crossings + 1 }
 {
     books.cross_clear();
     let out = device.take(flight.now);
-    go_on_clear(books, flight, party, out);
+    go_on_clear(books, flight, party, out)
 }
 
 /// The same at the drive.
@@ -119,60 +123,77 @@ pub(crate) fn pass_drive_clear<M: Medium>(
     drive: &mut Drive<M>,
     party: u8,
     books: &mut Books,
-    flight: &mut Flight,
-)
+    flight: Flight,
+) -> Flight
     requires room { length books.old.log < books.old.room }
     requires clear { IsClear books.old.plan books.old.crossings 1 }
-    ensures passage { Passage (DriveTakes M.view) books.old.plan party (trip_of books.old (Some flight.old)) drive.old (trip_of books.new (Some flight.new)) drive.new }
+    ensures passage { Passage (DriveTakes M.view) books.old.plan party (trip_of books.old (Some flight)) drive.old (trip_of books.new (Some result)) drive.new }
     ensures books { KeepsBooks 1 books.old books.new }
     ensures counted { books.new.crossings ≡ books.old.crossings + 1 }
 {
     books.cross_clear();
     let out = drive.take(flight.now);
-    go_on_behind(books, flight, party, out);
+    go_on_behind(books, flight, party, out)
 }
 
 /// What goes on behind the drive, which mostly sends where it does not listen.
 #[inline(always)]
-fn go_on_behind(books: &mut Books, flight: &mut Flight, party: u8, out: Out)
+fn go_on_behind(books: &mut Books, flight: Flight, party: u8, out: Out) -> Flight
     requires { length books.old.log < books.old.room }
-    ensures trip { trip_of books.new (Some flight.new) ≡ answered books.old.crossings books.old.log party flight.old out }
+    ensures trip { trip_of books.new (Some result) ≡ answered books.old.crossings books.old.log party flight out }
     ensures books { KeepsBooks 1 books.old books.new }
 {
     match out {
-        Out::Pass(frame) => flight.now = frame,
-        Out::Source(frame) => books.replace(flight, party, frame),
+        Out::Pass(frame) => Flight {
+            now: frame,
+            ..flight
+        },
+        Out::Source(frame) => {
+            books.finish(flight, party);
+            Flight::sourced(party, frame)
+        }
     }
 }
 
 /// What goes on behind another party, which seldom sends.
 #[inline(always)]
-fn go_on_clear(books: &mut Books, flight: &mut Flight, party: u8, out: Out)
+fn go_on_clear(books: &mut Books, flight: Flight, party: u8, out: Out) -> Flight
     requires { length books.old.log < books.old.room }
-    ensures trip { trip_of books.new (Some flight.new) ≡ answered books.old.crossings books.old.log party flight.old out }
+    ensures trip { trip_of books.new (Some result) ≡ answered books.old.crossings books.old.log party flight out }
     ensures books { KeepsBooks 1 books.old books.new }
 {
     match out {
-        Out::Pass(frame) => flight.now = frame,
-        Out::Source(frame) => books.replace_apart(flight, party, frame),
+        Out::Pass(frame) => Flight {
+            now: frame,
+            ..flight
+        },
+        Out::Source(frame) => {
+            // A copy: what a call that is not inlined gets has an address, so that `flight` itself would stand in
+            // memory on the whole way.
+            let ended = flight;
+            books.finish_apart(ended, party);
+            Flight::sourced(party, frame)
+        }
     }
 }
 
 /// A frame goes past devices, the first of which is the party `first`, over links at which nothing is planned.
 #[inline(always)]
-fn walk_clear<D: Device>(devices: &mut [D], first: u8, books: &mut Books, flight: &mut Flight)
+fn walk_clear<D: Device>(devices: &mut [D], first: u8, books: &mut Books, flight: Flight) -> Flight
     requires room { length books.old.log + length devices.old ≤ books.old.room }
     requires parties { first + length devices.old < 256 }
     requires clear { IsClear books.old.plan books.old.crossings (length devices.old) }
-    ensures journey { Journey books.old.plan first (trip_of books.old (Some flight.old)) (map D.state devices.old) (trip_of books.new (Some flight.new)) (map D.state devices.new) }
+    ensures journey { Journey books.old.plan first (trip_of books.old (Some flight)) (map D.state devices.old) (trip_of books.new (Some result)) (map D.state devices.new) }
     ensures books { KeepsBooks (length devices.old) books.old books.new }
     ensures counted { books.new.crossings ≡ books.old.crossings + length devices.old }
 {
+    let mut on = flight;
     let mut party = first;
     for device in devices.iter_mut() {
-        pass_clear(device, party, books, flight);
+        on = pass_clear(device, party, books, on);
         party += 1;
     }
+    on
 }
 
 /// The same of a list.
@@ -181,15 +202,15 @@ pub(crate) fn walk_past_clear<D: Device>(
     devices: &mut Vec<D>,
     first: u8,
     books: &mut Books,
-    flight: &mut Flight,
-)
+    flight: Flight,
+) -> Flight
     requires room { length books.old.log + length devices.old.items ≤ books.old.room }
     requires parties { first + length devices.old.items < 256 }
     requires clear { IsClear books.old.plan books.old.crossings (length devices.old.items) }
-    ensures journey { Journey books.old.plan first (trip_of books.old (Some flight.old)) (map D.state devices.old.items) (trip_of books.new (Some flight.new)) (map D.state devices.new.items) }
+    ensures journey { Journey books.old.plan first (trip_of books.old (Some flight)) (map D.state devices.old.items) (trip_of books.new (Some result)) (map D.state devices.new.items) }
     ensures books { KeepsBooks (length devices.old.items) books.old books.new }
     ensures counted { books.new.crossings ≡ books.old.crossings + length devices.old.items }
     ensures len { length devices.new.items ≡ length devices.old.items }
 {
-    walk_clear(devices, first, books, flight);
+    walk_clear(devices, first, books, flight)
 }

@@ -27,16 +27,16 @@ pub returns-in-Broken-clause-broken : goal.returns-in-Broken-clause-broken
 returns-in-Broken-clause-broken g c = hands_broke g.M.Medium.view _ c.args.limit _ c.requires.idle c.requires.address.0 c.requires.address.1 _ c.if-not-ask.ensures.asked _ c.requires.limit.0 c.in-Broken.ensures
 
 pub returns-then-command-clause-made : goal.returns-then-command-clause-made
-returns-then-command-clause-made g c = nobody_made g.M.Medium.view _ c.args.limit _ c.requires.idle c.requires.address.0 c.requires.address.1 _ c.if-not-ask.ensures.asked _ c.in-NotTaken.ensures _ c.unt.ensures _ c.if-command.ensures.done c.if-command.ensures.host
+returns-then-command-clause-made g c = nobody_made g.M.Medium.view _ c.args.limit _ c.requires.idle c.requires.address.0 c.requires.address.1 _ c.if-not-ask.ensures.asked _ c.in-NotTaken.ensures _ c.of.ensures.value _ c.if-command.ensures.done c.if-command.ensures.host
 
 pub returns-else-command-clause-broken : goal.returns-else-command-clause-broken
-returns-else-command-clause-broken g c = nobody_broke g.M.Medium.view _ c.args.limit _ c.requires.idle c.requires.address.0 c.requires.address.1 _ c.if-not-ask.ensures.asked _ c.in-NotTaken.ensures _ c.unt.ensures _ c.if-command.ensures.done
+returns-else-command-clause-broken g c = nobody_broke g.M.Medium.view _ c.args.limit _ c.requires.idle c.requires.address.0 c.requires.address.1 _ c.if-not-ask.ensures.asked _ c.in-NotTaken.ensures _ c.of.ensures.value _ c.if-command.ensures.done
 
 pub returns-then-clear_interface-clause-made : goal.returns-then-clear_interface-clause-made
-returns-then-clear_interface-clause-made g c = taken_made g.M.Medium.view _ c.args.limit _ c.requires.idle c.requires.address.0 c.requires.address.1 _ c.if-not-ask.ensures.asked _ c.in-Taken.ensures c.requires.limit.0 _ c.if-not-poll.ensures _ c.if-clear_interface.ensures.done (c.if-clear_interface.ensures.host refl) c.if-clear_interface.ensures.found
+returns-then-clear_interface-clause-made g c = taken_made g.M.Medium.view _ c.args.limit _ c.requires.idle c.requires.address.0 c.requires.address.1 _ c.if-not-ask.ensures.asked _ c.in-Taken.ensures c.requires.limit.0 _ c.if-not-poll.ensures _ c.if-clear_interface.ensures.done (c.if-clear_interface.ensures.host refl)
 
 pub returns-else-clear_interface-clause-broken : goal.returns-else-clear_interface-clause-broken
-returns-else-clear_interface-clause-broken g c = taken_not g.M.Medium.view _ c.args.limit _ c.requires.idle c.requires.address.0 c.requires.address.1 _ c.if-not-ask.ensures.asked _ c.in-Taken.ensures c.requires.limit.0 _ c.if-not-poll.ensures _ c.if-clear_interface.ensures.done c.if-clear_interface.ensures.found c.if-clear_interface.ensures.ready
+returns-else-clear_interface-clause-broken g c = taken_not g.M.Medium.view _ c.args.limit _ c.requires.idle c.requires.address.0 c.requires.address.1 _ c.if-not-ask.ensures.asked _ c.in-Taken.ensures c.requires.limit.0 _ c.if-not-poll.ensures _ c.if-clear_interface.ensures.done c.if-clear_interface.ensures.ready
 
 pub returns-then-not-poll-clause-broken : goal.returns-then-not-poll-clause-broken
 returns-then-not-poll-clause-broken g c = taken_broke g.M.Medium.view _ c.args.limit _ c.requires.idle c.requires.address.0 c.requires.address.1 _ c.if-not-ask.ensures.asked _ c.in-Taken.ensures c.requires.limit.0 _ c.if-not-poll.ensures

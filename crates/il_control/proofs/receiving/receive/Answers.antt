@@ -20,7 +20,7 @@ pub command-requires-clause-room : goal.command-requires-clause-room
 command-requires-clause-room g c = answered_room g.M.Medium.view _ _ _ _ 33 _ _ c.in-Some.ensures (asked_room g.M.Medium.view _ _ _ _ _ c.if-not-ask.ensures.asked (omega (arith, c.requires.room)))
 
 pub returns-then-command-clause-received : goal.returns-then-command-clause-received
-returns-then-command-clause-received g c = received_all g.M.Medium.view _ _ _ _ c.requires.idle c.requires.address.0 c.requires.address.1 c.requires.number _ c.if-not-ask.ensures.asked _ _ _ _ c.in-Some.ensures _ _ c.unt.ensures c.if-command.ensures.done
+returns-then-command-clause-received g c = received_all g.M.Medium.view _ _ _ _ c.requires.idle c.requires.address.0 c.requires.address.1 c.requires.number _ c.if-not-ask.ensures.asked _ _ _ _ c.in-Some.ensures _ _ c.of.ensures.value c.if-command.ensures.done
 
 pub returns-else-command-clause-not_received : goal.returns-else-command-clause-not_received
-returns-else-command-clause-not_received g c = not_ended g.M.Medium.view _ _ _ _ c.requires.idle c.requires.address.0 c.requires.address.1 c.requires.number _ c.if-not-ask.ensures.asked _ _ _ _ c.in-Some.ensures _ _ c.unt.ensures c.if-command.ensures.done
+returns-else-command-clause-not_received g c = not_ended g.M.Medium.view _ _ _ _ c.requires.idle c.requires.address.0 c.requires.address.1 c.requires.number _ c.if-not-ask.ensures.asked _ _ _ _ c.in-Some.ensures _ _ c.of.ensures.value c.if-command.ensures.done

@@ -13,14 +13,14 @@ pub clear_interface-requires-clause-free : goal.clear_interface-requires-clause-
 clear_interface-requires-clause-free g c = about_free _ c.requires.free
 
 pub returns-then-clear_interface-clause-done : goal.returns-then-clear_interface-clause-done
-returns-then-clear_interface-clause-done g c = clear_done g.M.Medium.view _ _ _ ifc _ _ c.requires.free.ring refl c.aau.ensures (of_unlent g.M.Medium.view _ _ _ true c.requires.free.ring c.if-clear_interface.ensures.done) c.command.ensures.done
+returns-then-clear_interface-clause-done g c = clear_done g.M.Medium.view _ _ _ ifc _ _ c.requires.free.ring refl c.of.ensures.value (of_unlent g.M.Medium.view _ _ _ true c.requires.free.ring c.if-clear_interface.ensures.done) c.command.ensures.done
 
 pub returns-then-clear_interface-clause-stays : goal.returns-then-clear_interface-clause-stays
 returns-then-clear_interface-clause-stays g c =
     let first = of_unlent g.M.Medium.view _ _ _ true c.requires.free.ring c.if-clear_interface.ensures.done in
     let part = part_of_unlent g.M.Medium.view _ _ _ true (message_of ifc) c.requires.free.ring first c.if-clear_interface.ensures.part in
     stay_then_more g.M.Medium.view _ _ _ _ _ _ _ first c.command.ensures.done (whole_stay g.M.Medium.view _ _ _ _ ifc first refl refl refl part)
-    (done_stay g.M.Medium.view _ _ _ _ aau _ c.command.ensures.done c.aau.ensures refl refl c.command.ensures.part)
+    (done_stay g.M.Medium.view _ _ _ _ aau _ c.command.ensures.done c.of.ensures.value refl refl c.command.ensures.part)
 
 pub returns-else-clear_interface-clause-done : goal.returns-else-clear_interface-clause-done
 returns-else-clear_interface-clause-done g c = clear_not g.M.Medium.view _ _ ifc _ refl c.if-clear_interface.false (of_unlent g.M.Medium.view _ _ _ false c.requires.free.ring c.if-clear_interface.ensures.done)

@@ -10,4 +10,4 @@ pub returns-in-None-clause-stays : goal.returns-in-None-clause-stays
 returns-in-None-clause-stays g c = no_number_stay g.M.Medium.view _ _ c.requires.free
 
 pub returns-in-Some-clause-stays : goal.returns-in-Some-clause-stays
-returns-in-Some-clause-stays g c = number_stay g.M.Medium.view _ _ _ _ _ _ c.command.ensures.done c.ddl.ensures c.in-Some.is c.requires.number c.command.ensures.part
+returns-in-Some-clause-stays g c = number_stay g.M.Medium.view _ _ _ _ _ _ c.command.ensures.done c.of.ensures.value c.in-Some.is c.requires.number c.command.ensures.part

@@ -8,34 +8,34 @@ use Rattle.il_record.proofs.runs.clear.Goals as goal
 pub returns-in_err-command-clause-broken : goal.returns-in_err-command-clause-broken
 returns-in_err-command-clause-broken g c =
     let low = low_party _ _ c.party-drive.ensures.range c.party-drive.ensures.party in
-    let first = uncommanded_as g.M.Medium.view _ _ _ _ _ c.unlisten.ensures.frame refl c.in_err-command.ensures.broken c.in_err-command.ensures.part in
+    let first = uncommanded_as g.M.Medium.view _ _ _ _ _ c.of.ensures.value refl c.in_err-command.ensures.broken c.in_err-command.ensures.part in
     if_err _ _ _ c.from_residual.ensures (broke_first g.M.Medium.view _ _ c.requires.idle low _ first.broken first.part)
 
 pub returns-in_err-command-2-clause-broken : goal.returns-in_err-command-2-clause-broken
 returns-in_err-command-2-clause-broken g c =
     let low = low_party _ _ c.party-drive.ensures.range c.party-drive.ensures.party in
-    let first = commanded_as g.M.Medium.view _ _ _ _ _ c.unlisten.ensures.frame refl c.in_ok-command.ensures.made c.in_ok-command.ensures.obeyed in
-    let second = uncommanded_as g.M.Medium.view _ _ _ _ _ (c.listen_address.ensures.frame ∙ ap lad c.party-drive.ensures.party) (lad_says _ low) c.in_err-command-2.ensures.broken c.in_err-command-2.ensures.part in
+    let first = commanded_as g.M.Medium.view _ _ _ _ _ c.of.ensures.value refl c.in_ok-command.ensures.made c.in_ok-command.ensures.obeyed in
+    let second = uncommanded_as g.M.Medium.view _ _ _ _ _ (c.of-2.ensures.value ∙ ap lad c.party-drive.ensures.party) (lad_says _ low) c.in_err-command-2.ensures.broken c.in_err-command-2.ensures.part in
     if_err _ _ _ c.from_residual-in_err-command-2.ensures (broke_second g.M.Medium.view _ _ c.requires.idle low _ first.made first.obeyed _ second.broken second.part)
 
 pub returns-clause-broken : goal.returns-clause-broken
 returns-clause-broken g c =
     let low = low_party _ _ c.party-drive.ensures.range c.party-drive.ensures.party in
-    let first = commanded_as g.M.Medium.view _ _ _ _ _ c.unlisten.ensures.frame refl c.in_ok-command.ensures.made c.in_ok-command.ensures.obeyed in
-    let second = commanded_as g.M.Medium.view _ _ _ _ _ (c.listen_address.ensures.frame ∙ ap lad c.party-drive.ensures.party) (lad_says _ low) c.in_ok-command-2.ensures.made c.in_ok-command-2.ensures.obeyed in
+    let first = commanded_as g.M.Medium.view _ _ _ _ _ c.of.ensures.value refl c.in_ok-command.ensures.made c.in_ok-command.ensures.obeyed in
+    let second = commanded_as g.M.Medium.view _ _ _ _ _ (c.of-2.ensures.value ∙ ap lad c.party-drive.ensures.party) (lad_says _ low) c.in_ok-command-2.ensures.made c.in_ok-command-2.ensures.obeyed in
     err_as _ _ _
     (λ broken not.
-    let third = uncommanded_as g.M.Medium.view _ _ _ _ _ c.selected_device_clear.ensures.frame refl not c.command-3.ensures.part in
+    let third = uncommanded_as g.M.Medium.view _ _ _ _ _ c.of-3.ensures.value refl not c.command-3.ensures.part in
     broke_third g.M.Medium.view _ _ c.requires.idle low _ first.made first.obeyed _ second.made second.obeyed _ third.broken third.part)
     c.command-3.ensures.broken
 
 pub returns-clause-cleared : goal.returns-clause-cleared
 returns-clause-cleared g c =
     let low = low_party _ _ c.party-drive.ensures.range c.party-drive.ensures.party in
-    let first = commanded_as g.M.Medium.view _ _ _ _ _ c.unlisten.ensures.frame refl c.in_ok-command.ensures.made c.in_ok-command.ensures.obeyed in
-    let second = commanded_as g.M.Medium.view _ _ _ _ _ (c.listen_address.ensures.frame ∙ ap lad c.party-drive.ensures.party) (lad_says _ low) c.in_ok-command-2.ensures.made c.in_ok-command-2.ensures.obeyed in
+    let first = commanded_as g.M.Medium.view _ _ _ _ _ c.of.ensures.value refl c.in_ok-command.ensures.made c.in_ok-command.ensures.obeyed in
+    let second = commanded_as g.M.Medium.view _ _ _ _ _ (c.of-2.ensures.value ∙ ap lad c.party-drive.ensures.party) (lad_says _ low) c.in_ok-command-2.ensures.made c.in_ok-command-2.ensures.obeyed in
     ok_both _ _ _ _
-    (λ done made obeyed. cleared_by g.M.Medium.view _ _ _ _ _ c.requires.idle low refl first second (commanded_as g.M.Medium.view _ _ _ _ _ c.selected_device_clear.ensures.frame refl made obeyed))
+    (λ done made obeyed. cleared_by g.M.Medium.view _ _ _ _ _ c.requires.idle low refl first second (commanded_as g.M.Medium.view _ _ _ _ _ c.of-3.ensures.value refl made obeyed))
     c.command-3.ensures.made c.command-3.ensures.obeyed
 
 pub returns-in_err-command-clause-used : goal.returns-in_err-command-clause-used

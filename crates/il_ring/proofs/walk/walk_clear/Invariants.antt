@@ -5,7 +5,7 @@ use Rattle.il_ring.proofs.walk.walk_clear.Given as goal
 
 abbrev pub invariant-loop-device : goal.invariant-loop-device
 invariant-loop-device g l =
-    Journey l.initial.books.plan l.initial.party (trip_of l.initial.books (Some l.initial.flight)) (map g.D.Device.state (take l.device-index l.initial.devices)) (trip_of l.books (Some l.flight)) (map g.D.Device.state (take l.device-index l.devices))
+    Journey l.initial.books.plan l.initial.party (trip_of l.initial.books (Some l.initial.on)) (map g.D.Device.state (take l.device-index l.initial.devices)) (trip_of l.books (Some l.on)) (map g.D.Device.state (take l.device-index l.devices))
     × (drop l.device-index l.devices ≡ drop l.device-index l.initial.devices)
     × KeepsBooks l.device-index l.initial.books l.books
     × (l.party ≡ l.initial.party + l.device-index)

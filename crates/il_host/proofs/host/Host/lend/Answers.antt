@@ -17,10 +17,10 @@ lend-requires-clause-room g c =
 
 pub returns-in-Ok-true : goal.returns-in-Ok-true
 returns-in-Ok-true g c =
-    ends_told {n = lent c.make_ready.new.self.volume c.lend.new.self} (found_lines c.devices-last.result (option_map (λ g. g.now) c.guest.result)) c.make_ready.ensures.rests c.requires.blank c.put_found.ensures.text c.answered.ensures.ended
+    ends_told {n = lent c.make_ready.new.self.volume c.lend.new.self} (found_lines c.devices-last.result (option_map (λ g. g.now) c.guest.result) c.log.result.now) c.make_ready.ensures.rests c.requires.blank c.put_found.ensures.text c.answered.ensures.ended
     (lend_told _ _ c.args.self.now.volume c.begin.new.self _ _ c.requires.valid c.begin.ensures.begun g.met.M.Medium.is_medium _ c.make_ready.new.self.volume c.in_default.field-0 _ c.in_default.ensures.addresses c.in_default.ensures.leaves c.in_default.ensures.opens _ c.records_mut.ensures.value
     c.lend.new.self c.devices-last.result c.args.frames c.requires.frames.1 _ _ c.records.ensures c.ring.ensures c.devices-last.ensures.count c.devices-last.ensures.guest c.in-Ok-true.ensures.leaves
-    c.in-Ok-true.field-0 c.in-Ok-true.field-0-test (option_map (λ g. g.now) c.guest.result) _ _ c.records-in-Ok-true.ensures c.ring-in-Ok-true.ensures c.guest.ensures.mind c.put_found.ensures.range c.in-Ok-true.ensures.lent)
+    c.in-Ok-true.field-0 c.in-Ok-true.field-0-test (option_map (λ g. g.now) c.guest.result) _ _ c.records-in-Ok-true.ensures c.ring-ring.ensures c.guest.ensures.mind c.log.result.now c.log.ensures c.in-Ok-true.ensures.lent)
 
 pub returns-in-Ok-false : goal.returns-in-Ok-false
 returns-in-Ok-false g c =

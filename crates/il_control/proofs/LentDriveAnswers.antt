@@ -1,17 +1,15 @@
--- What a second controller has found is what the log tells of the statuses that it asked for: as control is handed over, from one frame
+-- The drive answers wherever a second controller asks it: as control is handed over, from one frame
 -- at the host to the next, and where the rounds break off.
-use Rattle.std.proofs.Common.{◌≡◌, ◌∙◌, ◌⊎◌, inl, inr, ⊎_elim, ◌≤◌, ◌+◌, ◌++◌, ◌==◌, ◌&&◌, not, ℕ, Bool, true, false, List, [], ◌∷◌, Option, Some, None, length, set, get_or, refl, sym, ap, ap₂, subst, arith, append_assoc, append-nil, length-append, eqb-true}
+use Rattle.std.proofs.Common.{◌≡◌, ◌∙◌, ◌⊎◌, inl, inr, ⊎_elim, ◌≤◌, ◌+◌, ◌++◌, ◌==◌, ◌&&◌, not, ℕ, true, false, List, [], ◌∷◌, Option, Some, None, length, refl, sym, ap, ap₂, subst, arith, append_assoc, append-nil, length-append}
 use Rattle.std.specs.Prelude.{if◌then◌else◌}
 use Rattle.std.specs.Option.{IfSome}
-use Rattle.std.proofs.Math.Bool.{and-false}
 use Rattle.std.proofs.lemmas.Bool.{and_from, eq-eqb, ne_eqb}
-use Rattle.std.proofs.lemmas.List.{get_or-replicate, get_or-set_other, get_or-set_same}
 use Rattle.std.proofs.lemmas.List.Folds.{list_all-append}
 use Rattle.il_frames.specs.declared.entry.Entry.{Entry}
 use Rattle.il_frames.specs.declared.entry.Outcome.{Outcome}
 use Rattle.il_frames.specs.declared.entry.Outcome.TheVariants as outcome
 use Rattle.il_frames.specs.declared.frame.Frame.{Frame}
-use Rattle.il_frames.specs.Frames.{byte_of, is_data}
+use Rattle.il_frames.specs.Frames.{is_data}
 use Rattle.il_frames.specs.Messages.{message_of}
 use Rattle.il_frames.specs.NamedFrames.{entry, is_frame, is_ifc, nrd, rfc, unt}
 use Rattle.il_device.specs.Passing.{is_plain}
@@ -26,35 +24,31 @@ use Rattle.il_guest.specs.declared.control.Control.TheVariants as control
 use Rattle.il_guest.specs.declared.control.Place.{Place}
 use Rattle.il_guest.specs.declared.control.Place.TheVariants as place
 use Rattle.il_guest.specs.declared.guest.GuestOut.{GuestOut}
-use Rattle.il_guest.specs.Courses.{control_next, first_control, told_by_control}
+use Rattle.il_guest.specs.Courses.{first_control}
 use Rattle.il_guest.specs.Frames.{nop, sst}
-use Rattle.il_guest.specs.State.{GuestState, is_leading, none_found}
-use Rattle.il_guest.specs.Steps.{IsAsked, IsRoundPlace, command_frame, command_then, control_after, expecting, noted, sent_at, told_at}
-use Rattle.il_guest.specs.Takes.{GuestTakes, takes_control}
-use Rattle.il_guest.proofs.GuestLaws.{goes-on, passes-host, passes-ifc, takes-it}
-use Rattle.il_guest.proofs.RoundLaws.{is_same-refl, is_same-true}
+use Rattle.il_guest.specs.State.{GuestState}
+use Rattle.il_guest.specs.Steps.{IsAsked, IsRoundPlace, command_frame, command_then, control_after, expecting, sent_at}
+use Rattle.il_guest.specs.Takes.{GuestTakes}
+use Rattle.il_guest.proofs.RoundLaws.{is_same-refl}
 use Rattle.il_guest.proofs.SentLemmas.{message_of-command}
 use Rattle.il_ring.specs.declared.flight.Flight.{Flight}
 use Rattle.il_ring.specs.declared.plan.Arrival.{Arrival}
 use Rattle.il_ring.specs.declared.plan.Planned.{Planned}
-use Rattle.il_ring.specs.Books.{BooksView}
 use Rattle.il_ring.specs.Flights.{hit, lost_at, sourced}
 use Rattle.il_ring.specs.Guests.{GuestMind, IsUnderHost, guest_mind, mind_of}
 use Rattle.il_ring.specs.HandedOver.{HandedOver}
 use Rattle.il_ring.specs.Journeys.{Trip}
 use Rattle.il_ring.specs.LedAdds.{standing}
-use Rattle.il_ring.specs.Lending.{GuestMeets, GuestReaches, IsLed, LastPassage, LedRound, LedTrip, StandsAt, StandsLent, StandsUnder, entry_where, going_on}
+use Rattle.il_ring.specs.Lending.{GuestMeets, GuestReaches, IsLed, LastPassage, LedRound, LedTrip, entry_where, going_on}
 use Rattle.il_ring.specs.Lists.{Each}
-use Rattle.il_ring.specs.Outcomes.{IsTalking, StoodSo, back_entry}
+use Rattle.il_ring.specs.Outcomes.{IsTalking, back_entry}
 use Rattle.il_ring.specs.Plans.{next_fault}
 use Rattle.il_ring.specs.Rings.{RingView, devices_of, drive_party}
-use Rattle.il_ring.specs.Statuses.{answers_always, asked_after, asked_all, asked_behind, known_of, last_told, tells_none}
-use Rattle.il_ring.specs.Turned.{Halves, NothingCame, StandsThere, turned, turned_flight}
-use Rattle.il_ring.proofs.DataPasses.{same_byte}
+use Rattle.il_ring.specs.Statuses.{answers_always, asked_after, asked_all, asked_behind, tells_none}
+use Rattle.il_ring.specs.Turned.{StandsThere, turned, turned_flight}
 use Rattle.il_ring.proofs.LedSteps.{IsOwn}
-use Rattle.il_control.specs.Found.{FoundLeft, FoundSo, HasFound, KnowsAsked, KnowsPlace, KnowsReady}
+use Rattle.il_control.specs.DriveAnswers.{AnswersBrokeOff, AnswersPolling, KnowsAsked, KnowsPlace, KnowsReady}
 use Rattle.il_control.specs.Receives.{IsCalm, IsHolding}
-use Rattle.il_control.proofs.LentAsking.{hit_so}
 use Rattle.il_control.proofs.LentBytes.{ByteAltered, ByteBack, ByteGone, NrdGone, NrdOn, byte_move, nrd_move}
 use Rattle.il_control.proofs.LentCommands.{command_other, said_other}
 use Rattle.il_control.proofs.LentAnswers.{answers-append, are_mute-answers, mute-answers, not_untold}
@@ -63,99 +57,13 @@ use Rattle.il_control.proofs.LentPlaces.{AskedSince, command_plain, since_one}
 use Rattle.il_control.proofs.LentRings.{own_ring, own_ring-length}
 use Rattle.il_control.proofs.LentRounds.{Passed, own_so, turned_same}
 use Rattle.il_control.proofs.LentStarts.{NoStatus, StartLostAt, StatusHeld, StatusLost, rest, rest_then, start_move}
-use Rattle.il_control.proofs.LentStatuses.{NoEnd, are_mute, asked_all-append, byte-NoEnd, data-no-end, is_mute, known-append, known-byte, known-none, mute-byte, mute-lost, mute-other, mute-own, standing-mute, told-mute}
+use Rattle.il_control.proofs.LentStatuses.{are_mute, asked_all-append, data-no-end, is_mute, mute-byte, mute-lost, mute-other, mute-own, standing-mute}
 use Rattle.il_control.proofs.LentSteps.{GoesOut}
 use Rattle.il_control.proofs.LentTelling.{byte_stands, held_stands, within}
 use Rattle.il_control.proofs.LentWalks.{Polling, StandsSo, Stays, front_of, stays}
 
--- ---- what it has found behind a frame
-
-abbrev found_between : Place → Place → List (Option ℕ) → List (Option ℕ)
-found_between (place.Start a) (place.Command c) found = set found a None
-found_between (place.Relayed a d) (place.Command c) found = set found a (Some (byte_of d))
-found_between p q found = found
-
-place_same : (p q : Place) → control.Rounds p ≡ control.Rounds q → p ≡ q
-place_same p q same = ap (λ c. elim c [ control.Rounds x ↦ x | control.Host ↦ p | control.Silent ↦ p ]) same
-
 flight_same : (f g : Flight) → Some f ≡ Some g → f ≡ g
 flight_same f g same = ap (λ o. elim o [ Some h ↦ h | None ↦ f ]) same
-
--- it noted this as it came from one place to the next
-noted_between : (own : Option ℕ) (last : ℕ) (p q : Place) (f : Frame) (found : List (Option ℕ)) → control_after own last p f ≡ control.Rounds q → noted (told_at p f) found ≡ found_between p q found
-noted_between own last (place.Command c) q f found to = refl
-noted_between own last (place.Ready c) q f found to = refl
-noted_between own last (place.Held a d) q f found to = refl
-noted_between own last (place.Start a) q f found to = by (is_data f) (is_frame f sst) refl refl to
-  where
-    by : (bytes start : Bool) → is_data f ≡ bytes → is_frame f sst ≡ start → (elim bytes [ true ↦ control.Rounds (place.Held a f) | false ↦ expecting start (place.Command (command.Unt a)) ]) ≡ control.Rounds q
-        → noted (if start then Some (a, None) else None) found ≡ found_between (place.Start a) q found
-    by true true bytes start to = let clash : true ≡ false = sym bytes ∙ ap is_data (is_same-true f sst start) in cc
-    by true false bytes start to = ap (λ q. found_between (place.Start a) q found) (place_same (place.Held a f) q to)
-    by false true bytes start to = ap (λ q. found_between (place.Start a) q found) (place_same (place.Command (command.Unt a)) q to)
-    by false false bytes start to = cc
-noted_between own last (place.Relayed a d) q f found to = by (is_frame f eto) to
-  where
-    by : (end : Bool) → expecting end (place.Command (command.Unt a)) ≡ control.Rounds q → noted (if end then Some (a, Some (byte_of d)) else None) found ≡ found_between (place.Relayed a d) q found
-    by true to = ap (λ q. found_between (place.Relayed a d) q found) (place_same (place.Command (command.Unt a)) q to)
-    by false to = cc
-
-found_taken : (g h : GuestState) (f : Frame) (out : GuestOut) (p q : Place) → g.control ≡ control.Rounds p → h.control ≡ control.Rounds q → GuestTakes g f out h → h.found ≡ found_between p q g.found
-found_taken g h f out p q at to takes = by (is_ifc (message_of f)) refl
-  where
-    by : (clear : Bool) → is_ifc (message_of f) ≡ clear → h.found ≡ found_between p q g.found
-    by true is = let clash = sym to ∙ (passes-ifc g h f out (ap is_leading at) is takes).control in cc
-    by false is =
-        let on = goes-on g h f out (ap is_leading at) is takes in
-        let next : control_after g.device.roles.address g.last p f ≡ control.Rounds q = sym (on.control ∙ ap (λ c. control_next g.device.roles.address g.last c f) at) ∙ to in
-        on.found ∙ ap (λ c. noted (told_by_control c f) g.found) at ∙ noted_between g.device.roles.address g.last p q f g.found next
-
-silent_taken : (g h : GuestState) (f : Frame) (out : GuestOut) (a : ℕ) (d : Frame) → g.control ≡ control.Rounds (place.Relayed a d) → h.control ≡ control.Silent → GuestTakes g f out h → h.found ≡ g.found
-silent_taken g h f out a d at silent takes = by (is_ifc (message_of f)) refl
-  where
-    by_end : (end : Bool) → expecting end (place.Command (command.Unt a)) ≡ control.Silent → noted (if end then Some (a, Some (byte_of d)) else None) g.found ≡ g.found
-    by_end true to = cc
-    by_end false to = refl
-
-    by : (clear : Bool) → is_ifc (message_of f) ≡ clear → h.found ≡ g.found
-    by true is = let clash = sym silent ∙ (passes-ifc g h f out (ap is_leading at) is takes).control in cc
-    by false is =
-        let on = goes-on g h f out (ap is_leading at) is takes in
-        let next : expecting (is_frame f eto) (place.Command (command.Unt a)) ≡ control.Silent = sym (on.control ∙ ap (λ c. control_next g.device.roles.address g.last c f) at) ∙ silent in
-        on.found ∙ ap (λ c. noted (told_by_control c f) g.found) at ∙ by_end (is_frame f eto) next
-
-found_still : (p : Place) (found : List (Option ℕ)) → found_between p p found ≡ found
-found_still (place.Command c) found = refl
-found_still (place.Ready c) found = refl
-found_still (place.Start a) found = refl
-found_still (place.Held a d) found = refl
-found_still (place.Relayed a d) found = refl
-
--- over a pass
-found_half : {M : Type 0} (view : M → MediumView) (r s : RingView M) (held : Option Flight) (f : Flight) (answer : Arrival) (two : Halves view r held f answer s) (p q : Place) → two.g.control ≡ control.Rounds p → two.h.control ≡ control.Rounds q → two.h.found ≡ found_between p q two.g.found
-found_half view r s held f answer two p q at to = ⊎_elim
-    (λ (none : NothingCame (length (devices_of r)) r.books.log r.books.kept two.g two.h two.behind two.arrives two.own).
-    let same : q ≡ p = place_same q p (sym to ∙ ap (λ (g : GuestState). g.control) none.same ∙ at) in
-    ap (λ (g : GuestState). g.found) none.same ∙ sym (found_still p two.g.found) ∙ ap (λ q. found_between p q two.g.found) (sym same))
-    (λ some. found_taken two.g two.h some.at.now some.out p q at to some.takes)
-    two.came
-
--- a byte that is not ended by ETO is not noted
-silent_half : {M : Type 0} (view : M → MediumView) (r s : RingView M) (held : Option Flight) (f : Flight) (answer : Arrival) (two : Halves view r held f answer s) (a : ℕ) (d : Frame) → two.g.control ≡ control.Rounds (place.Relayed a d) → two.h.control ≡ control.Silent → two.h.found ≡ two.g.found
-silent_half view r s held f answer two a d at silent = ⊎_elim
-    (λ (none : NothingCame (length (devices_of r)) r.books.log r.books.kept two.g two.h two.behind two.arrives two.own). ap (λ (g : GuestState). g.found) none.same)
-    (λ some. silent_taken two.g two.h some.at.now some.out a d at silent some.takes)
-    two.came
-
--- the statuses after one was set
-found_set : (found : List (Option ℕ)) (a b : ℕ) (x : Option ℕ) → length found ≡ 31 → a ≤ 30 → get_or (set found a x) b None ≡ (if a == b then x else get_or found b None)
-found_set found a b x many small = by (a == b) refl
-  where
-    by : (same : Bool) → (a == b) ≡ same → get_or (set found a x) b None ≡ (if same then x else get_or found b None)
-    by true is = ap (λ b. get_or (set found a x) b None) (sym (eqb-true a b is)) ∙ get_or-set_same found a x None (omega (arith, many, small))
-    by false is = get_or-set_other found a b x None (λ e. let clash : true ≡ false = sym (eq-eqb a b (sym e)) ∙ is in cc)
-
--- ---- at every moment
 
 -- ---- an address that is asked stays so
 
@@ -175,11 +83,11 @@ knows_ready k entries (command.Unl a) range = tt
 knows_ready k entries (command.Tad a) range = asked_now k entries (command_frame (command.Tad a)) (outcome.Back (command_frame (command.Tad a))) a (λ asked. ap (asked_behind asked) (message_of-command (command.Tad a) range))
 knows_ready k entries (command.Unt a) range = tt
 
-knows_then : (k : ℕ) (entries : List Entry) (b : BooksView) (own : Option ℕ) (last : ℕ) (c : Command) → KnowsReady (asked_all k None entries) c → KnowsPlace (asked_all k None (entries ++ returned k rfc ∷ [])) b (command_then own last c)
-knows_then k entries b own last command.Nop knows = tt
-knows_then k entries b own last (command.Unl a) knows = tt
-knows_then k entries b own last (command.Tad a) knows = asked_more k entries rfc (outcome.Back rfc) a (λ asked. refl) knows
-knows_then k entries b own last (command.Unt a) knows = tt
+knows_then : (k : ℕ) (entries : List Entry) (own : Option ℕ) (last : ℕ) (c : Command) → KnowsReady (asked_all k None entries) c → KnowsPlace (asked_all k None (entries ++ returned k rfc ∷ [])) (command_then own last c)
+knows_then k entries own last command.Nop knows = tt
+knows_then k entries own last (command.Unl a) knows = tt
+knows_then k entries own last (command.Tad a) knows = asked_more k entries rfc (outcome.Back rfc) a (λ asked. refl) knows
+knows_then k entries own last (command.Unt a) knows = tt
 
 command_no_start : (c : Command) → (is_frame (command_frame c) sst ≡ false) × (is_frame (command_frame c) eto ≡ false)
 command_no_start command.Nop = (refl, refl)
@@ -213,9 +121,6 @@ held_mute k f bytes x mute other =
 back_mute : (k : ℕ) (f : Flight) (back : Frame) → is_data f.sent ≡ true → (f.source == k) ≡ false → (more : List Entry) → are_mute k (back_entry f back ∷ more) ≡ are_mute k more
 back_mute k f back bytes other more = ap (λ b. b && are_mute k more) (mute-other k f.source f.sent (outcome.Back back) other (data-no-end f.sent bytes))
 
-start_NoEnd : (k : ℕ) → NoEnd k (returned k sst ∷ [])
-start_NoEnd k e = and-false (k == e.source)
-
 pub then_own : (own : Option ℕ) (last : ℕ) (c : Command) → IsOwn (command_then own last c)
 then_own own last command.Nop = tt
 then_own own last (command.Unl a) = tt
@@ -224,36 +129,21 @@ then_own own last (command.Unt a) = tt
 
 -- ---- from one frame to the next
 
-module _ {M : Type 0} (view : M → MediumView) (k last : ℕ) (own : Option ℕ) (base : List Entry) (r s : RingView M) (arrived : ℕ) (answer : Arrival) (old : Polling view k last own base r arrived) (passed : Passed view r answer s) (led : IsLed s) (so_far : FoundSo base r) where
+module _ {M : Type 0} (view : M → MediumView) (k last : ℕ) (own : Option ℕ) (base : List Entry) (r s : RingView M) (arrived : ℕ) (answer : Arrival) (old : Polling view k last own base r arrived) (passed : Passed view r answer s) (led : IsLed s) (so_far : AnswersPolling base r) where
   abbrev n : ℕ
   n = length (devices_of r)
 
   -- a frame stands at the host again, or none does
   abbrev Next : Type 0
-  Next = FoundSo base s ⊎ (FoundLeft base s × (s.books.lent ≡ None))
+  Next = AnswersPolling base s ⊎ (AnswersBrokeOff base s × (s.books.lent ≡ None))
 
   -- over a pass
   module _ (held : Option Flight) (f : Flight) (so : Stays view k last own base r s arrived old answer held f) where
-    -- what was found is told by these entries
-    abbrev Heard : List Entry → Type 0
-    Heard e = (b : ℕ) → b ≤ 30 → get_or so.two.h.found b None ≡ last_told n b (so_far.entries ++ e)
-
-    before : (b : ℕ) → b ≤ 30 → get_or so.two.g.found b None ≡ last_told n b so_far.entries
-    before = subst (λ mind. IfSome mind (λ mind. (b : ℕ) → b ≤ 30 → get_or mind.found b None ≡ last_told n b so_far.entries)) so.two.mind so_far.found
-
-    heard_still : (e : List Entry) → are_mute n e ≡ true → so.two.h.found ≡ so.two.g.found → Heard e
-    heard_still e mute same b small = ap (λ found. get_or found b None) same ∙ before b small ∙ sym (told-mute n b so_far.entries e mute)
-
     size : n ≡ length (devices_of s)
     size = old.many ∙ sym so.many_then
 
     log_then : (e : List Entry) → s.books.log ≡ r.books.log ++ e → s.books.log ≡ base ++ (so_far.entries ++ e)
     log_then e log = log ∙ ap (λ log. log ++ e) so_far.log ∙ append_assoc base so_far.entries e
-
-    has_found : (e : List Entry) → Heard e → HasFound (so_far.entries ++ e) s
-    has_found e found =
-        subst (λ mind. IfSome mind (λ mind. (b : ℕ) → b ≤ 30 → get_or mind.found b None ≡ last_told (length (devices_of s)) b (so_far.entries ++ e))) (sym so.two.mind_then)
-        (subst (λ n. (b : ℕ) → b ≤ 30 → get_or so.two.h.found b None ≡ last_told n b (so_far.entries ++ e)) size found)
 
     -- in these the drive answers wherever it is asked
     abbrev Answered : List Entry → Type 0
@@ -268,83 +158,43 @@ module _ {M : Type 0} (view : M → MediumView) (k last : ℕ) (own : Option ℕ
         ∙ answers-append n (drive_party r) None so_far.entries e so_far.answered answered
 
     -- they broke off
-    left_then : (e : List Entry) → s.books.log ≡ r.books.log ++ e → s.books.lent ≡ None → Heard e → Answered e → Next
-    left_then e log none found answered = inr (
-      record {
-        entries = so_far.entries ++ e;
-        log = log_then e log;
-        found = has_found e found;
-        answered = has_answered e answered;
-      },
-      none,
-    )
+    left_then : (e : List Entry) → s.books.log ≡ r.books.log ++ e → s.books.lent ≡ None → Answered e → Next
+    left_then e log none answered = inr (record { entries = so_far.entries ++ e; log = log_then e log; answered = has_answered e answered }, none)
 
-    -- they broke off, and nothing was told
-    left_still : (e : List Entry) → s.books.log ≡ r.books.log ++ e → s.books.lent ≡ None → are_mute n e ≡ true → so.two.h.found ≡ so.two.g.found → Next
-    left_still e log none mute same = left_then e log none (heard_still e mute same) (answered_still e mute)
+    -- they broke off, and no SST came back
+    left_still : (e : List Entry) → s.books.log ≡ r.books.log ++ e → s.books.lent ≡ None → are_mute n e ≡ true → Next
+    left_still e log none mute = left_then e log none (answered_still e mute)
 
-    -- at a place, what was found and what is known
+    -- at a place, what is known
     module _ (p q : Place) (at : so.two.g.control ≡ control.Rounds p) (to : so.two.h.control ≡ control.Rounds q) where
-      knew : KnowsPlace (asked_all n None so_far.entries) r.books p
-      knew = subst (λ c. KnowsAsked (asked_all n None so_far.entries) r.books c) at (subst (λ mind. IfSome mind (λ mind. KnowsAsked (asked_all n None so_far.entries) r.books mind.control)) so.two.mind so_far.knows)
-
-      found_is : so.two.h.found ≡ found_between p q so.two.g.found
-      found_is = found_half view (going_on r) s held f answer so.two p q at to
-
-      -- it took something, where it moved
-      many_found : (p ≡ q → ⊥) → length so.two.g.found ≡ 31
-      many_found moved = ⊎_elim
-          (λ (none : NothingCame n r.books.log r.books.kept so.two.g so.two.h so.two.behind so.two.arrives so.two.own).
-          absurd (moved (place_same p q (sym at ∙ sym (ap (λ (g : GuestState). g.control) none.same) ∙ to))))
-          (λ some. some.takes.before.found)
-          so.two.came
-
-      -- one address was told of
-      heard_told : (e : List Entry) (a : ℕ) (x : Option ℕ) → (p ≡ q → ⊥) → found_between p q so.two.g.found ≡ set so.two.g.found a x → a ≤ 30 → NoEnd n e → asked_all n None so_far.entries ≡ Some a
-          → ((b : ℕ) (known : Option ℕ) → known_of n b (Some a) known e ≡ (if a == b then x else known)) → Heard e
-      heard_told e a x moved tells range no_end asked known b small =
-          ap (λ found. get_or found b None) (found_is ∙ tells) ∙ found_set so.two.g.found a b x (many_found moved) range
-          ∙ ap (λ known. if a == b then x else known) (before b small)
-          ∙ sym (known-append n b None None so_far.entries e no_end ∙ ap (λ asked. known_of n b asked (last_told n b so_far.entries) e) asked ∙ known b (last_told n b so_far.entries))
+      knew : KnowsPlace (asked_all n None so_far.entries) p
+      knew = subst (λ c. KnowsAsked (asked_all n None so_far.entries) c) at (subst (λ mind. IfSome mind (λ mind. KnowsAsked (asked_all n None so_far.entries) mind.control)) so.two.mind so_far.knows)
 
       -- so it is behind these entries
-      found_then : (e : List Entry) → s.books.log ≡ r.books.log ++ e → Heard e → Answered e → KnowsPlace (asked_all n None (so_far.entries ++ e)) s.books q → FoundSo base s
-      found_then e log found answered knows = record {
+      answers_then : (e : List Entry) → s.books.log ≡ r.books.log ++ e → Answered e → KnowsPlace (asked_all n None (so_far.entries ++ e)) q → AnswersPolling base s
+      answers_then e log answered knows = record {
         entries = so_far.entries ++ e;
         log = log_then e log;
-        found = has_found e found;
         answered = has_answered e answered;
-        knows = subst (λ mind. IfSome mind (λ mind. KnowsAsked (asked_all (length (devices_of s)) None (so_far.entries ++ e)) s.books mind.control)) (sym so.two.mind_then)
-            (subst (λ c. KnowsAsked (asked_all (length (devices_of s)) None (so_far.entries ++ e)) s.books c) (sym to) (subst (λ n. KnowsPlace (asked_all n None (so_far.entries ++ e)) s.books q) size knows));
+        knows = subst (λ mind. IfSome mind (λ mind. KnowsAsked (asked_all (length (devices_of s)) None (so_far.entries ++ e)) mind.control)) (sym so.two.mind_then)
+            (subst (λ c. KnowsAsked (asked_all (length (devices_of s)) None (so_far.entries ++ e)) c) (sym to) (subst (λ n. KnowsPlace (asked_all n None (so_far.entries ++ e)) q) size knows));
       }
 
       -- its next frame goes out behind them
-      found_out : (e : List Entry) (next : Flight) (kept : Option Flight) (out : GoesOut (going_on r) e next kept answer s) → Heard e → Answered e → are_mute n (entry_where n kept ++ lost_at next 0 ∷ []) ≡ true
-          → (StandsThere (going_on r) e next kept out.0 answer s → KnowsPlace (asked_all n None (so_far.entries ++ e)) s.books q) → Next
-      found_out e next kept out found answered mute knows = ⊎_elim
-          (λ (there : StandsThere (going_on r) e next kept out.0 answer s). inl (found_then e there.log_is found answered (knows there)))
+      answers_out : (e : List Entry) (next : Flight) (kept : Option Flight) (out : GoesOut (going_on r) e next kept answer s) → Answered e → are_mute n (entry_where n kept ++ lost_at next 0 ∷ []) ≡ true
+          → KnowsPlace (asked_all n None (so_far.entries ++ e)) q → Next
+      answers_out e next kept out answered mute knows = ⊎_elim
+          (λ (there : StandsThere (going_on r) e next kept out.0 answer s). inl (answers_then e there.log_is answered knows))
           (λ not.
           let tail = entry_where n kept ++ lost_at next 0 ∷ [] in
           left_then (e ++ tail) not.0.log_is not.0.lent_is
-          (λ b small. found b small ∙ sym (told-mute n b (so_far.entries ++ e) tail mute) ∙ ap (last_told n b) (append_assoc so_far.entries e tail))
           (answers-append n (drive_party r) (asked_all n None so_far.entries) e tail answered (are_mute-answers n (drive_party r) (asked_all n (asked_all n None so_far.entries) e) tail mute)))
           out.1
 
   -- ---- by place
 
-  held_now : (a : ℕ) (d : Frame) → old.place ≡ place.Held a d → (flight : Flight) → r.books.lent ≡ Some (sourced k nrd) → r.books.kept ≡ Some flight → flight.now ≡ d
-  held_now a d at flight lent kept =
-      let minded = subst (λ mind. StandsLent n mind r.books.lent r.books.kept) old.mind_is old.led.stands in
-      let lent_so = subst (λ lent. StandsLent n (Some old.mind) lent r.books.kept) lent minded in
-      let kept_so = subst (λ kept. StandsLent n (Some old.mind) (Some (sourced k nrd)) kept) kept lent_so in
-      let stands : StandsAt n (place.Held a d) (sourced k nrd) (Some flight) = subst (λ c. StandsUnder n c (sourced k nrd) (Some flight)) (old.at ∙ ap (λ p. control.Rounds p) at) kept_so in
-      ap (λ (f : Flight). f.now) (flight_same flight stands.1 stands.2) ∙ stands.3
-
   control_at : (held : Option Flight) (f : Flight) (so : Stays view k last own base r s arrived old answer held f) (p : Place) → old.place ≡ p → so.two.g.control ≡ control.Rounds p
   control_at held f so p at = so.control_is ∙ ap (λ p. control.Rounds p) at
-
-  found_same : (g h : GuestState) → h ≡ g → h.found ≡ g.found
-  found_same g h same = ap (λ (g : GuestState). g.found) same
 
   -- one of the others that talks is not the last
   source_other : (boxed : List DeviceState) (device : DeviceState) → r.after ≡ boxed ++ device ∷ [] → (q : ℕ) → IsTalking q None (devices_of (own_ring boxed None (going_on r))) → (q == n) ≡ false
@@ -367,11 +217,10 @@ module _ {M : Type 0} (view : M → MediumView) (k last : ℕ) (own : Option ℕ
       ⊎_elim
       (λ (on : MovedOn view r s f answer so.two (place.Ready c)).
       let e : List Entry = returned n f ∷ [] in
-      found_out None (sourced 0 f) so (place.Command c) (place.Ready c) from on.control e (sourced n rfc) None on.out
-      (heard_still None (sourced 0 f) so e (own_mute n f (outcome.Back f) kind.0 kind.1) (found_is None (sourced 0 f) so (place.Command c) (place.Ready c) from on.control))
+      answers_out None (sourced 0 f) so (place.Command c) (place.Ready c) from on.control e (sourced n rfc) None on.out
       (answered_still None (sourced 0 f) so e (own_mute n f (outcome.Back f) kind.0 kind.1))
-      (lost_mute n n rfc 0) (λ there. knows_ready n so_far.entries c range))
-      (λ lost. left_still None (sourced 0 f) so (entry n f (outcome.Lost (turned n lost.own_party)) ∷ []) lost.ends.log_is lost.ends.lent_is (lost_mute n n f (turned n lost.own_party)) (found_same so.two.g so.two.h lost.same))
+      (lost_mute n n rfc 0) (knows_ready n so_far.entries c range))
+      (λ lost. left_still None (sourced 0 f) so (entry n f (outcome.Lost (turned n lost.own_party)) ∷ []) lost.ends.log_is lost.ends.lent_is (lost_mute n n f (turned n lost.own_party)))
       (plain_move view r s f answer so.two old.led stands.2.kept_is old.place (place.Ready c) so.control_is tt (ap is_plain says ∙ command_plain c) (command_other view k last own base c) (ap is_ifc says ∙ said_other view k last own base c) to)
 
   by_ready : (c : Command) → old.place ≡ place.Ready c → Next
@@ -384,12 +233,11 @@ module _ {M : Type 0} (view : M → MediumView) (k last : ℕ) (own : Option ℕ
       ⊎_elim
       (λ (on : MovedOn view r s rfc answer so.two q).
       let e : List Entry = returned n rfc ∷ [] in
-      found_out None (sourced 0 rfc) so (place.Ready c) q from on.control e (sourced n (sent_at q)) None on.out
-      (heard_still None (sourced 0 rfc) so e (own_mute n rfc (outcome.Back rfc) refl refl) (found_is None (sourced 0 rfc) so (place.Ready c) q from on.control))
+      answers_out None (sourced 0 rfc) so (place.Ready c) q from on.control e (sourced n (sent_at q)) None on.out
       (answered_still None (sourced 0 rfc) so e (own_mute n rfc (outcome.Back rfc) refl refl))
       (lost_mute n n (sent_at q) 0)
-      (λ there. knows_then n so_far.entries s.books so.two.g.device.roles.address so.two.g.last c (knew None (sourced 0 rfc) so (place.Ready c) q from on.control)))
-      (λ lost. left_still None (sourced 0 rfc) so (entry n rfc (outcome.Lost (turned n lost.own_party)) ∷ []) lost.ends.log_is lost.ends.lent_is (lost_mute n n rfc (turned n lost.own_party)) (found_same so.two.g so.two.h lost.same))
+      (knows_then n so_far.entries so.two.g.device.roles.address so.two.g.last c (knew None (sourced 0 rfc) so (place.Ready c) q from on.control)))
+      (λ lost. left_still None (sourced 0 rfc) so (entry n rfc (outcome.Lost (turned n lost.own_party)) ∷ []) lost.ends.log_is lost.ends.lent_is (lost_mute n n rfc (turned n lost.own_party)))
       (plain_move view r s rfc answer so.two old.led stands.2.kept_is old.place q so.control_is (then_own so.two.g.device.roles.address so.two.g.last c) refl refl refl to)
 
   by_start : (a : ℕ) → old.place ≡ place.Start a → Next
@@ -405,28 +253,26 @@ module _ {M : Type 0} (view : M → MediumView) (k last : ℕ) (own : Option ℕ
       (λ (none : NoStatus view r s answer so.two a).
       let e : List Entry = returned n sst ∷ [] in
       let q = place.Command (command.Unt a) in
-      found_out None (sourced 0 sst) so (place.Start a) q from none.control e (sourced n unt) None none.out
-      (heard_told None (sourced 0 sst) so (place.Start a) q from none.control e a None (λ same. cc) refl range.1 (start_NoEnd n) (knew None (sourced 0 sst) so (place.Start a) q from none.control) (λ b known. known-none n a b known))
+      answers_out None (sourced 0 sst) so (place.Start a) q from none.control e (sourced n unt) None none.out
       (let other : (a == drive_party r) ≡ false = ne_eqb a (drive_party r) (not_untold view (rest view r s answer so.two) (rest_then view r s answer so.two) a range.1 calm since none.whole none.said) in
       ap (λ asked. answers_always n (drive_party r) asked e) (knew None (sourced 0 sst) so (place.Start a) q from none.control) ∙ ap (λ mine. not (mine && tells_none n (returned n sst)) && true) other)
-      (lost_mute n n unt 0) (λ there. tt))
+      (lost_mute n n unt 0) tt)
       (λ (held : StatusHeld view r s answer so.two a).
       let flight = held.began.now.flight in
       let e : List Entry = entry n sst (outcome.Taken flight.source) ∷ [] in
       let q = place.Held a flight.now in
       let bytes = held.began.now.data_frame in
       let kept_mute : are_mute n (entry_where n (Some flight) ++ lost_at (sourced n nrd) 0 ∷ []) ≡ true = held_mute n flight bytes (entry n nrd (outcome.Lost 0)) (mute-lost n n nrd 0) (source_other so.two.boxed so.two.g.device so.two.after flight.source held.began.talked) in
-      found_out None (sourced 0 sst) so (place.Start a) q from held.control e (sourced n nrd) (Some flight) held.out
-      (heard_still None (sourced 0 sst) so e (start_mute n flight.source) (found_is None (sourced 0 sst) so (place.Start a) q from held.control))
+      answers_out None (sourced 0 sst) so (place.Start a) q from held.control e (sourced n nrd) (Some flight) held.out
       (answered_still None (sourced 0 sst) so e (start_mute n flight.source))
-      kept_mute (λ there. asked_more n so_far.entries sst (outcome.Taken flight.source) a (λ asked. refl) (knew None (sourced 0 sst) so (place.Start a) q from held.control)))
+      kept_mute tt)
       on)
       (λ off. ⊎_elim
-      (λ (gone : StartLostAt view r s answer so.two). left_still None (sourced 0 sst) so (entry n sst (outcome.Lost (turned n gone.own_party)) ∷ []) gone.ends.log_is gone.ends.lent_is (lost_mute n n sst (turned n gone.own_party)) (found_same so.two.g so.two.h gone.same))
+      (λ (gone : StartLostAt view r s answer so.two). left_still None (sourced 0 sst) so (entry n sst (outcome.Lost (turned n gone.own_party)) ∷ []) gone.ends.log_is gone.ends.lent_is (lost_mute n n sst (turned n gone.own_party)))
       (λ (lost : StatusLost view r s answer so.two).
       let e : List Entry = entry n sst (outcome.Taken lost.taker) ∷ [] in
       let tail : List Entry = entry lost.taker lost.sent (outcome.Lost (turned n lost.own_party)) ∷ [] in
-      left_still None (sourced 0 sst) so (e ++ tail) lost.ends.log_is lost.ends.lent_is (both_mute n e tail (start_mute n lost.taker) (lost_mute n lost.taker lost.sent (turned n lost.own_party))) (found_same so.two.g so.two.h lost.same))
+      left_still None (sourced 0 sst) so (e ++ tail) lost.ends.log_is lost.ends.lent_is (both_mute n e tail (start_mute n lost.taker) (lost_mute n lost.taker lost.sent (turned n lost.own_party))))
       off)
       (start_move view r s answer so.two old.led stands.2.kept_is a from calm (since_one a (devices_of (rest view r s answer so.two)) range.1 since))
 
@@ -438,30 +284,18 @@ module _ {M : Type 0} (view : M → MediumView) (k last : ℕ) (own : Option ℕ
       let from = control_at (Some flight) (sourced 0 nrd) so (place.Held a d) at in
       let in_ = within view k last own base r old.boxed old.device flight old.after old.many stands.2.holding stands.2.holding_is in
       let holding = subst (λ boxed. (h : IsHolding (own_ring boxed (Some flight) (going_on r))) × (h.flight ≡ flight)) so.boxed_is (stands.2.holding, stands.2.holding_is) in
-      let stood = subst StoodSo holding.1 holding.0.stood in
       let bytes : is_data flight.sent ≡ true = subst (λ (f : Flight). is_data f.sent ≡ true) holding.1 holding.0.data_frame in
       let other : (flight.source == n) ≡ false = ne_eqb flight.source n (λ e. omega (arith, e, in_.1, old.many)) in
-      let now = held_now a d at flight stands.2.lent_is stands.2.kept_is in
       ⊎_elim
       (λ (on : NrdOn view r s flight answer so.two a d holding.0).
       let e : List Entry = returned n nrd ∷ [] in
       let q = place.Relayed a d in
-      found_out (Some flight) (sourced 0 nrd) so (place.Held a d) q from on.control e flight None on.out
-      (heard_still (Some flight) (sourced 0 nrd) so e (own_mute n nrd (outcome.Back nrd) refl refl) (found_is (Some flight) (sourced 0 nrd) so (place.Held a d) q from on.control))
+      answers_out (Some flight) (sourced 0 nrd) so (place.Held a d) q from on.control e flight None on.out
       (answered_still (Some flight) (sourced 0 nrd) so e (own_mute n nrd (outcome.Back nrd) refl refl))
-      (lost_mute n flight.source flight.sent 0)
-      (λ (there : StandsThere (going_on r) e flight None on.out.0 answer s).
-      let came = hit_so r.books.plan on.out.0 flight there.at old.led.plan stood there.came in (
-        asked_more n so_far.entries nrd (outcome.Back nrd) a (λ asked. refl) (knew (Some flight) (sourced 0 nrd) so (place.Held a d) q from on.control),
-        λ f lent fresh.
-            let same : f ≡ there.at = flight_same f there.at (sym lent ∙ there.lent_is) in
-            let unaltered : there.at.altered ≡ false = ap (λ (f : Flight). f.altered) (sym same) ∙ fresh in
-            let as_it_was : there.at ≡ flight = ⊎_elim (λ is. is) (λ altered. let clash : true ≡ false = sym altered.0 ∙ unaltered in cc) came.3 in
-            ap byte_of (sym now) ∙ same_byte flight.sent flight.now (stood.same (ap (λ (f : Flight). f.altered) (sym as_it_was) ∙ unaltered)) ∙ ap (λ (f : Flight). byte_of f.sent) (sym as_it_was ∙ sym same),
-      )))
+      (lost_mute n flight.source flight.sent 0) tt)
       (λ (gone : NrdGone view r s flight answer so.two holding.0).
       let x : Entry = entry n nrd (outcome.Lost (turned n gone.own_party)) in
-      left_still (Some flight) (sourced 0 nrd) so (entry_where n (Some flight) ++ x ∷ []) gone.ends.log_is gone.ends.lent_is (held_mute n flight bytes x (mute-lost n n nrd (turned n gone.own_party)) other) (found_same so.two.g so.two.h gone.same))
+      left_still (Some flight) (sourced 0 nrd) so (entry_where n (Some flight) ++ x ∷ []) gone.ends.log_is gone.ends.lent_is (held_mute n flight bytes x (mute-lost n n nrd (turned n gone.own_party)) other))
       (nrd_move view r s flight answer so.two old.led stands.2.kept_is a d from holding.0)
 
   by_relayed : (a : ℕ) (d : Frame) → old.place ≡ place.Relayed a d → Next
@@ -481,31 +315,24 @@ module _ {M : Type 0} (view : M → MediumView) (k last : ℕ) (own : Option ℕ
       let back = came.ended.back in
       let e : List Entry = entry flight.source flight.sent (outcome.Back back) ∷ entry flight.source eto (outcome.Taken n) ∷ [] in
       let q = place.Command (command.Unt a) in
-      let known = knew None flight so (place.Relayed a d) q from came.control in
-      let fresh : flight.altered ≡ false = ap (λ (f : Flight). f.altered) (sym holding.1) ∙ came.ended.clean.0 in
-      let byte : byte_of d ≡ byte_of flight.sent = known.1 flight stands.2.lent_is fresh in
-      found_out None flight so (place.Relayed a d) q from came.control e (sourced n unt) None came.out
-      (heard_told None flight so (place.Relayed a d) q from came.control e a (Some (byte_of flight.sent)) (λ same. cc) (ap (λ byte. set so.two.g.found a (Some byte)) byte) range.0.1
-      (byte-NoEnd n flight.source flight.sent back (entry flight.source eto (outcome.Taken n) ∷ [])) known.0 (λ b before. known-byte n flight.source a b before flight.sent back bytes other))
+      answers_out None flight so (place.Relayed a d) q from came.control e (sourced n unt) None came.out
       (mute-answers n (drive_party r) (asked_all n None so_far.entries) e (ap (λ own. not (own && (is_frame flight.sent sst && true)) && (not (own && false) && true)) other))
-      (lost_mute n n unt 0) (λ there. tt))
+      (lost_mute n n unt 0) tt)
       (λ off. ⊎_elim
       (λ (gone : ByteGone view r s flight answer so.two holding.0).
       let p = turned n gone.own_party in
       left_still None flight so (gone.front ++ entry flight.source gone.frame (outcome.Lost p) ∷ []) gone.ends.log_is gone.ends.lent_is
       (both_mute n gone.front (entry flight.source gone.frame (outcome.Lost p) ∷ [])
       (⊎_elim (λ first. ap (are_mute n) first.0) (λ next. ap (are_mute n) next.3 ∙ back_mute n flight next.1 bytes other []) gone.kind)
-      (lost_mute n flight.source gone.frame p))
-      (found_same so.two.g so.two.h gone.same))
+      (lost_mute n flight.source gone.frame p)))
       (λ (altered : ByteAltered view r s flight answer so.two holding.0).
       let ends : List Entry = entry flight.source ete (outcome.Taken n) ∷ [] in
       left_still None flight so (back_entry flight altered.back ∷ ends ++ []) altered.ends.log_is altered.ends.lent_is
-      (back_mute n flight altered.back bytes other ends ∙ other_mute n flight.source ete (outcome.Taken n) other refl)
-      (silent_half view (going_on r) s None flight answer so.two a d from altered.silent))
+      (back_mute n flight altered.back bytes other ends ∙ other_mute n flight.source ete (outcome.Taken n) other refl))
       off)
       (byte_move view r s flight answer so.two old.led stands.2.kept_is a d from holding.0 holding.1 holding.2)
 
-  -- From any place: so it stays as a frame goes on, or what was found is left as the rounds break off.
+  -- From any place: so it stays as a frame goes on, or the drive has answered so far as the rounds break off.
   by_place : (p : Place) → old.place ≡ p → Next
   by_place (place.Command c) at = by_command c at
   by_place (place.Ready c) at = by_ready c at
@@ -527,43 +354,39 @@ module _ {M : Type 0} (view : M → MediumView) (k last : ℕ) (own : Option ℕ
       by (place.Held a d) stands = clash_of (sourced k nrd) stands.2.lent_is
       by (place.Relayed a d) stands = clash_of stands.2.flight stands.2.lent_is
 
-  pub found_passes : Polling view k last own base s (arrived + 1) → FoundSo base s
-  found_passes next = ⊎_elim (λ so. so) (λ left. absurd (lent_stands next left.1)) (by_place old.place refl)
+  pub answers_passes : Polling view k last own base s (arrived + 1) → AnswersPolling base s
+  answers_passes next = ⊎_elim (λ so. so) (λ left. absurd (lent_stands next left.1)) (by_place old.place refl)
 
-  -- either way what was found is what the log tells
-  pub found_left : FoundLeft base s
-  found_left = ⊎_elim (λ (so : FoundSo base s). record { entries = so.entries; log = so.log; found = so.found; answered = so.answered }) (λ left. left.0) (by_place old.place refl)
+  -- either way the drive answered wherever it was asked
+  pub answers_left : AnswersBrokeOff base s
+  answers_left = ⊎_elim (λ (so : AnswersPolling base s). record { entries = so.entries; log = so.log; answered = so.answered }) (λ left. left.0) (by_place old.place refl)
 
 -- ---- as control is handed over
 
-first_taken : (g h : GuestState) (f : Frame) (out : GuestOut) → g.control ≡ control.Host → h.control ≡ first_control → GuestTakes g f out h → (h.found ≡ none_found) × (g.last ≤ 30)
-first_taken g h f out host first takes = (by (takes_control g f) refl, takes.before.last.1)
-  where
-    by : (asked : Bool) → takes_control g f ≡ asked → h.found ≡ none_found
-    by true is = (takes-it g h f out host is takes).found
-    by false is = let clash = sym first ∙ (passes-host g h f out host is takes).control in cc
+first_taken : (g h : GuestState) (f : Frame) (out : GuestOut) → GuestTakes g f out h → g.last ≤ 30
+first_taken g h f out takes = takes.before.last.1
 
 -- it controls since it took something
 not_same : (g h : GuestState) → g.control ≡ control.Host → h.control ≡ first_control → h ≡ g → ⊥
 not_same g h host first same = let clash = sym first ∙ ap (λ (g : GuestState). g.control) same ∙ host in cc
 
-first_met : (k : ℕ) (t : Trip) (kept : Option Flight) (f : Flight) (o : Option Flight) (g : GuestState) (u : LedTrip) (h : GuestState) → g.control ≡ control.Host → h.control ≡ first_control → GuestMeets k t kept f o g u h → (h.found ≡ none_found) × (g.last ≤ 30)
+first_met : (k : ℕ) (t : Trip) (kept : Option Flight) (f : Flight) (o : Option Flight) (g : GuestState) (u : LedTrip) (h : GuestState) → g.control ≡ control.Host → h.control ≡ first_control → GuestMeets k t kept f o g u h → g.last ≤ 30
 first_met k t kept f None g u h host first met = absurd (not_same g h host first met.1)
-first_met k t kept f (Some at) g u h host first met = first_taken g h at.now met.0 host first met.1
+first_met k t kept f (Some at) g u h host first met = first_taken g h at.now met.0 met.1
 
-first_reached : (plan : List Planned) (k : ℕ) (t : Trip) (kept flight : Option Flight) (g : GuestState) (u : LedTrip) (h : GuestState) → g.control ≡ control.Host → h.control ≡ first_control → GuestReaches plan k t kept flight g u h → (h.found ≡ none_found) × (g.last ≤ 30)
+first_reached : (plan : List Planned) (k : ℕ) (t : Trip) (kept flight : Option Flight) (g : GuestState) (u : LedTrip) (h : GuestState) → g.control ≡ control.Host → h.control ≡ first_control → GuestReaches plan k t kept flight g u h → g.last ≤ 30
 first_reached plan k t kept None g u h host first reached = absurd (not_same g h host first reached.1)
 first_reached plan k t kept (Some f) g u h host first reached = first_met k t kept f (hit (next_fault plan t.crossings) f) g u h host first reached
 
 module _ {M : Type 0} (view : M → MediumView) (r s : RingView M) (f : Flight) (answer : Arrival) (round : LedRound view r f answer s) (under : IsUnderHost r.guest) (over : HandedOver r answer s) where
-  -- its own frame goes out; it has found nothing yet, and asks no address above 30
-  handed_none : (over.h.found ≡ none_found) × (over.g.last ≤ 30)
-  handed_none = by round.guest round.guest_then refl refl
+  -- it asks no address above 30
+  pub handed_few : over.g.last ≤ 30
+  handed_few = by round.guest round.guest_then refl refl
     where
       passage : (guest later : Option GuestState) → round.guest ≡ guest → round.guest_then ≡ later → LastPassage r.books.plan (length (devices_of r)) round.at_last r.books.kept guest round.behind later
       passage guest later is next = subst (λ later. LastPassage r.books.plan (length (devices_of r)) round.at_last r.books.kept guest round.behind later) next (subst (λ guest. LastPassage r.books.plan (length (devices_of r)) round.at_last r.books.kept guest round.behind round.guest_then) is round.past_last)
 
-      by : (guest later : Option GuestState) → round.guest ≡ guest → round.guest_then ≡ later → (over.h.found ≡ none_found) × (over.g.last ≤ 30)
+      by : (guest later : Option GuestState) → round.guest ≡ guest → round.guest_then ≡ later → over.g.last ≤ 30
       by None None is next = let clash = sym over.mind_then ∙ round.mind_then ∙ ap guest_mind next in cc
       by None (Some h) is next = absurd (passage None (Some h) is next)
       by (Some g) None is next = absurd (passage (Some g) None is next)
@@ -573,31 +396,23 @@ module _ {M : Type 0} (view : M → MediumView) (r s : RingView M) (f : Flight) 
           let first : h.control ≡ first_control = ap (λ (m : GuestMind). m.control) (sym same) ∙ over.control in
           let before : mind_of over.g ≡ mind_of g = ap (λ o. elim o [ Some m ↦ m | None ↦ mind_of over.g ]) (sym over.mind ∙ round.mind ∙ ap guest_mind is) in
           let reached = first_reached r.books.plan (length (devices_of r)) round.at_last r.books.kept round.at_last.flight g round.behind h host first (passage (Some g) (Some h) is next) in
-          (ap (λ (m : GuestMind). m.found) same ∙ reached.0, subst (λ last. last ≤ 30) (sym (ap (λ (m : GuestMind). m.last) before)) reached.1)
-
-  pub handed_few : over.g.last ≤ 30
-  handed_few = handed_none.1
+          subst (λ last. last ≤ 30) (sym (ap (λ (m : GuestMind). m.last) before)) reached
 
   -- so it begins as control is handed over
-  pub found_handed : (base : List Entry) → s.books.log ≡ base → FoundSo base s
-  found_handed base log = record {
+  pub answers_handed : (base : List Entry) → s.books.log ≡ base → AnswersPolling base s
+  answers_handed base log = record {
     entries = [];
     log = log ∙ sym (append-nil base);
     answered = refl;
-    found = subst (λ mind. IfSome mind (λ mind. (a : ℕ) → a ≤ 30 → get_or mind.found a None ≡ last_told (length (devices_of s)) a [])) (sym over.mind_then)
-        (λ a small. ap (λ found. get_or found a None) handed_none.0 ∙ get_or-replicate 31 a None None (omega (arith, small)));
-    knows = subst (λ mind. IfSome mind (λ mind. KnowsAsked None s.books mind.control)) (sym over.mind_then) (subst (λ c. KnowsAsked None s.books c) (sym over.control) tt);
+    knows = subst (λ mind. IfSome mind (λ mind. KnowsAsked None mind.control)) (sym over.mind_then) (subst (λ c. KnowsAsked None c) (sym over.control) tt);
   }
 
   -- nor where that frame was lost
-  pub found_gone : (base : List Entry) (k : ℕ) → s.books.log ≡ base ++ entry k nop (outcome.Lost 0) ∷ [] → FoundLeft base s
-  found_gone base k log = record {
+  pub answers_gone : (base : List Entry) (k : ℕ) → s.books.log ≡ base ++ entry k nop (outcome.Lost 0) ∷ [] → AnswersBrokeOff base s
+  answers_gone base k log = record {
     entries = entry k nop (outcome.Lost 0) ∷ [];
     log = log;
     answered = are_mute-answers (length (devices_of s)) (drive_party s) None (entry k nop (outcome.Lost 0) ∷ []) (and_from (is_mute (length (devices_of s)) (entry k nop (outcome.Lost 0))) true (mute-lost (length (devices_of s)) k nop 0) refl);
-    found = subst (λ mind. IfSome mind (λ mind. (a : ℕ) → a ≤ 30 → get_or mind.found a None ≡ last_told (length (devices_of s)) a (entry k nop (outcome.Lost 0) ∷ []))) (sym over.mind_then)
-        (λ a small. ap (λ found. get_or found a None) handed_none.0 ∙ get_or-replicate 31 a None None (omega (arith, small))
-        ∙ sym (told-mute (length (devices_of s)) a [] (entry k nop (outcome.Lost 0) ∷ []) (and_from (is_mute (length (devices_of s)) (entry k nop (outcome.Lost 0))) true (mute-lost (length (devices_of s)) k nop 0) refl)));
   }
 
 -- ---- as control is taken back
