@@ -6,6 +6,7 @@ import sys
 
 TOP = os.path.dirname(os.path.dirname(os.path.abspath(__file__)))
 PROGRAM = os.path.join(TOP, "crates/il_command/out/il_command")
+TAPE = os.path.join(TOP, "crates/tape/out/tape")
 # Each tool that a script of checks/ needs, and the Debian packages that it comes with. Rattle's kit brings rt.
 PACKAGES = {
     "awk": "mawk",
@@ -44,6 +45,34 @@ def need(*tools, root=False, program=PROGRAM):
         lacks.append(f"the built program {os.path.relpath(program, TOP)} (`rt ci` leaves it there)")
     if lacks:
         sys.exit(f"{os.path.relpath(sys.argv[0], TOP)} needs {', '.join(lacks)}")
+
+
+# ---- images
+
+def entry(name, kind, start, length, field=bytes(4), date=bytes(6)):
+    """A slot of a directory. The name is a text, or bytes."""
+    name = name.encode() if isinstance(name, str) else name
+    place = start.to_bytes(4, "big") + length.to_bytes(4, "big")
+    return name.ljust(10) + kind.to_bytes(2, "big") + place + date + b"\x80\x01" + field
+
+
+def image(name, slots, start=2, length=2, mark=b"\x80\0", contents=(), size=131_072, geometry=(0, 0, 0), label=b"HPTAPE"):
+    """Writes an image with these slots, records with these contents, and a header that tells this geometry."""
+    bytes_ = bytearray(size)
+    bytes_[:20] = mark + label + start.to_bytes(4, "big") + b"\x10\0\0\0" + length.to_bytes(4, "big")
+    bytes_[24:36] = b"".join(number.to_bytes(4, "big") for number in geometry)
+    first = 256 * start if 0 < start < 100 else 512
+    for k, slot in enumerate([*slots, b" " * 10 + b"\xFF\xFF"]):
+        if k < 8 * length and length < 500:
+            bytes_[first + 32 * k:first + 32 * k + len(slot)] = slot
+    for record, content in contents:
+        bytes_[256 * record:256 * record + len(content)] = content
+    write(name, bytes_)
+
+
+def write(name, content):
+    with open(name, "wb") as file:
+        file.write(content)
 
 
 class Tries:

@@ -91,7 +91,7 @@ static DAY: [(&str, Answer, &str); 76] = [
     ("SST", Sends("DAB 00"), "SST"),
     ("TAD 03", Passes("TAD 03"), "TAD 03"),
     ("DAB 00", Passes("DAB 00"), "DAB 00"),
-    // AAU ends the role and the address. Behind address 30 stands IAA.
+    // AAU ends the role and the address. After address 30 stands IAA.
     ("LAD 01", Passes("LAD 01"), "LAD 01"),
     ("AAU", Passes("AAU"), "AAU"),
     ("DAB 47", Passes("DAB 47"), "DAB 47"),
@@ -157,7 +157,7 @@ fn idle_without_a_place(rt: HostRuntime) -> Result<(), Fail> {
     Ok(())
 }
 
-// A printer and Quiet on one loop, as boxes that the caller made: a frame, and the frame behind both.
+// A printer and Quiet on one loop, as boxes that the caller made: a frame, and the frame after both.
 static ROUNDS: [(&str, &str); 14] = [
     ("AAD 01", "AAD 03"),
     ("LAD 01", "LAD 01"),

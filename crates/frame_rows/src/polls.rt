@@ -2,7 +2,7 @@
 
 use il_poll::ServiceState;
 
-// A row: what PPE set, the status, an identify byte and what it is behind the device.
+// A row: what PPE set, the status, an identify byte and what it is after the device.
 static POLLS: [(Option<u8>, u8, u8, u8); 8] = [
     (None, 3, 0x00, 0x00),
     (Some(8), 3, 0x00, 0x01),

@@ -101,7 +101,7 @@ too_large = refl
 cut_off : within (replicate 32 (codes "purge B")) ≡ batch (replicate 31 (part.Purge b_name)) → ⊥
 cut_off h = let both = sym too_large ∙ h in cc
 
--- behind it each line is an item again
+-- after it each line is an item again
 behind : items (codes "begin" ∷ codes "purge B" ∷ codes "commit" ∷ codes "dir" ∷ []) ≡ Asks (OfVolume (volume.Batch (part.Purge b_name ∷ []))) ∷ Asks (OfVolume volume.Dir) ∷ []
 behind = refl
 

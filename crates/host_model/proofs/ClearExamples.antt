@@ -1,4 +1,4 @@
--- Worked examples of commands of the volume behind a fault, computed by the checker: the drive is to be cleared first.
+-- Worked examples of commands of the volume after a fault, computed by the checker: the drive is to be cleared first.
 use Rattle.std.proofs.Common.{◌≡◌, ◌∙◌, ◌++◌, suc, zero, Bool, List, [], ◌∷◌, Some, true, false, refl, sym, ap, subst, inl, arith}
 use Rattle.std.specs.Prelude.{unwrap_or}
 use Rattle.lif_model.specs.Tape.{Tape}
@@ -34,8 +34,8 @@ addressing = Whole (Command ifc) ∷ Whole (Command aau) ∷ Whole (Address 2) �
 abbrev pub clearing : List Piece
 clearing = Whole (Command unl) ∷ Whole (Command (lad 1)) ∷ Whole (Command sdc) ∷ []
 
--- Behind a fault of the medium the loop is ready, and the drive is cleared; behind a fault of the frames it is addressed before that.
--- What comes behind is free.
+-- After a fault of the medium the loop is ready, and the drive is cleared; after a fault of the frames it is addressed before that.
+-- What comes after is free.
 clears_first : (begins true false (clearing ++ Whole asking ∷ []) ≡ true) × (begins false false (addressing ++ clearing ++ Whole asking ∷ []) ≡ true)
     × (begins true false clearing ≡ true) × (begins true true (Whole asking ∷ []) ≡ true) × (begins false true [] ≡ true)
 clears_first = (refl, refl, refl, refl, refl)
@@ -97,7 +97,7 @@ alike t u same = subst (SettlesAs (settled t)) (ap (λ o. unwrap_or o t) same) (
 lost_fetch : IsStep sixth (record lost_event { item = asks_fetch })
 lost_fetch = record { acts = lost_fetch_acts; directory = record { kept = refl; log = λ on. absurd (false_is_not_true on) }; tape = tape_faulted _ refl (λ on t u before after off. alike t u (sym before ∙ after)) }
 
--- and the store counted as sound behind it
+-- and the store counted as sound after it
 sound_behind_a_fault : IsStep sixth (record lost_event { item = asks_fetch; after = record lost_host { sound = true } }) → ⊥
 sound_behind_a_fault s = false_is_not_true (sym (s.acts.sound refl))
 
@@ -121,7 +121,7 @@ some_entry f dues (Cut (Send a number ds) n b ∷ []) h empty = false_is_not_tru
 some_entry f dues (Cut (Receive a number start answer) n b ∷ []) h empty = false_is_not_true h
 some_entry f dues (Cut (Identify g) n b ∷ []) h empty = false_is_not_true h
 
--- behind a fault of the medium a command of the volume replies without a frame
+-- after a fault of the medium a command of the volume replies without a frame
 abbrev pub failed_host : HostState
 failed_host = record a_host { ready = true }
 

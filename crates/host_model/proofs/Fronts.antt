@@ -66,7 +66,7 @@ addressed_back z more pieces keeps = first_back z more pieces (keeps_begins (add
 -- ---- events
 
 module _ (plan : List Planned) (e : Event) (so : Exchanged plan e) where
-  -- the host controls the loop behind it
+  -- the host controls the loop after it
   pub controls_still : controller_after 0 e.log ≡ 0
   controls_still = controller_after-no_lend e.log (has_no_lend-reading (ring_of e.before.loop) e.log so.reading)
 

@@ -158,7 +158,7 @@ heard_nothing frames before_status status printed led = record {
   );
 }
 
--- behind it the store is not sound, since the drive was not the host's
+-- after it the store is not sound, since the drive was not the host's
 abbrev after_one : Tape → ℕ → HostState
 after_one tape n = record (ready_on tape n) { crossings = 28; sound = false; loop = lending_loop 0 7 7 }
 

@@ -82,7 +82,7 @@ said = record {
   status = refl;
 }
 
--- behind a fault the first ones, and one byte of any value
+-- after a fault the first ones, and one byte of any value
 said_in_part : Says reply.FaultFrame (heard (codes "HX") 2)
 said_in_part = record {
   devices = record {

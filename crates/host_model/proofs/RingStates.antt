@@ -53,7 +53,7 @@ ring_on r = ap (λ k. host_loop k (drive_party r)) (count_on r)
 
 -- ---- the parallel poll
 
--- behind all devices the frame is that behind the first ones and then the others
+-- after all devices the frame is that after the first ones and then the others
 polled_parts : (k : ℕ) (xs ys : List DeviceState) (f : Frame) → polled_along k (xs ++ ys) f ≡ polled_along (k + length xs) ys (polled_along k xs f)
 polled_parts k [] ys f = let same : k ≡ k + 0 = omega arith in ap (λ j. polled_along j ys f) same
 polled_parts k (x ∷ xs) ys f =
@@ -114,7 +114,7 @@ pub record HostLed (devices : List DeviceState) (log : List Entry) : Type 0 wher
 pub host_led : (devices : List DeviceState) (k q : ℕ) (log : List Entry) → Reading (host_loop k q) log → OneTalker (roles_of devices) log → HostLed devices log
 host_led devices k q log reading one = record { one = one; none = has_no_lend-reading (host_loop k q) log reading; commands = commands-reading k q log reading }
 
--- by what the ring tells of rounds behind each other, which began and ended without a held frame
+-- by what the ring tells of rounds after each other, which began and ended without a held frame
 pub travels_on : {M : Type 0} (view : M → MediumView) (item : Item) (reply : Reply) (was is sound sound_now : Bool) (log : List Entry) (r s : RingView M)
     → Adds view r None log (held_at_end None log) s → HostLed (devices_of r) log → length log ≤ log_room (view r.drive.medium).record_count
     → Travels (record { item = item; reply = reply; log = log; before = state_on view was sound r; after = state_on view is sound_now s })

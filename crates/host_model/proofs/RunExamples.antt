@@ -121,7 +121,7 @@ summed : output Summary events texts ≡ lines (codes "generated 2" ∷ codes "o
 unfolding digits
 summed = refl
 
--- the reply behind its log, and no reply left out; a fault is no error
+-- the reply after its log, and no reply left out; a fault is no error
 reply_first : event_text WithTrace lost_event (reply_text_of lost_event) ≡ lines (codes "fault frame" ∷ codes "~ 0 IFC = IFC" ∷ codes "~ 0 RFC ! 0" ∷ []) → ⊥
 unfolding digits
 reply_first = texts_differ _ _ refl

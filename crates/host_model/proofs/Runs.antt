@@ -98,7 +98,7 @@ led_back c rs now (e ∷ log) back so = (
   so.2 ∙ sym (roles_led-back c e log back rs),
 )
 
--- Where a loop is not ready, the logs of the events behind it begin so, or have no entry.
+-- Where a loop is not ready, the logs of the events after it begin so, or have no entry.
 joined_back : (plan : List Planned) (start : HostState) (events : List Event) (finish : HostState) → Chained plan start events finish → start.ready ≡ false
     → (joined_log events ≡ []) ⊎ (takes_back_first (joined_log events) ≡ true)
 joined_back plan start [] finish chain off = inl refl
@@ -124,7 +124,7 @@ joined_back plan start (e ∷ events) finish chain off = by (uses_frames e.item)
 led_on : (c : ℕ) (rs now : List Roles) (log : List Entry) → (log ≡ []) ⊎ (takes_back_first log ≡ true) → LedSo 0 rs log now → LedSo c rs log now
 led_on c rs now log first so = ⊎_elim (λ none. subst (λ log. LedSo c rs log now) (sym none) (subst (λ log. LedSo 0 rs log now) none so)) (λ back. led_back c rs now log back so) first
 
--- the log of an event, and those behind it
+-- the log of an event, and those after it
 led_more : (plan : List Planned) (e : Event) (events : List Event) (finish : HostState) → IsStep plan e → Chained plan e.after events finish
     → LedSo 0 (all_roles e.after.loop) (joined_log events) (all_roles finish.loop) → LedSo 0 (all_roles e.before.loop) (joined_log (e ∷ events)) (all_roles finish.loop)
 led_more plan e events finish s chain so =

@@ -1,4 +1,4 @@
--- A small host for worked examples: a tape of twelve records, whose gate is record 8, in a drive with a printer behind it.
+-- A small host for worked examples: a tape of twelve records, whose gate is record 8, in a drive with a printer after it.
 use Rattle.std.proofs.Common.{◌≡◌, ◌++◌, ℕ, List, [], ◌∷◌, Some, None, ◌==◌, true, false, sym, ◌∙◌, ap, arith, codes, set}
 use Rattle.std.specs.Str.{bytes_eq}
 use Rattle.std.proofs.lemmas.Bool.Decides.{nat_tests}
@@ -22,7 +22,7 @@ printer = fresh (Some 32) 8192
 abbrev pub quiet : DeviceState
 quiet = fresh None 0
 
--- over this tape, with these devices behind the drive
+-- over this tape, with these devices after the drive
 abbrev pub host_with : Tape → List DeviceState → HostState
 host_with tape after = fresh_host (Some tape) 12 0 [] after None
 

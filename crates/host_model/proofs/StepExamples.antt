@@ -1,4 +1,4 @@
--- Worked examples of steps, computed by the checker: a drive, which is party 1, with a printer behind it, is asked for its status.
+-- Worked examples of steps, computed by the checker: a drive, which is party 1, with a printer after it, is asked for its status.
 use Rattle.std.proofs.Common.{◌≡◌, ◌++◌, ℕ, All, List, [], ◌∷◌, Some, None, false, inl, length, refl, sym, ap, ◌∙◌, arith, flat_map, codes, true}
 use Rattle.std.specs.Prelude.{unwrap_or}
 use Rattle.std.specs.Fmt.{digits}
@@ -160,13 +160,13 @@ fault_without_a_plan s = (s.acts.exchanged refl).cause.0 refl
 ok_in_spite_of_a_hop : IsStep sixth status_event → ⊥
 ok_in_spite_of_a_hop s = hop_is_none (s.acts.exchanged refl).cause.0
 
--- another tape behind it
+-- another tape after it
 another_tape : IsStep [] (record status_event { after = record asked_host { tape = Some a_tape } }) → ⊥
 another_tape s = texts_differ (record_at a_tape 4) (record_at base.formatted 4) refl (ap (λ t. record_at (unwrap_or t []) 4) (s.acts.replied.stays refl))
 
 -- ---- a loss at the sixth crossing
 
--- RFC behind IFC comes past both devices and not back to the host
+-- RFC after IFC comes past both devices and not back to the host
 abbrev pub lost_pieces : List Piece
 lost_pieces = Cut (Command ifc) 1 (FrameLost 0) ∷ []
 

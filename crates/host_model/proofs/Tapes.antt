@@ -106,7 +106,7 @@ settles_each k d n log t whole only list told =
 abbrev pub IsPlainAt : HostState → Type 0
 IsPlainAt s = (t : Tape) → s.tape ≡ Some t → IsPlain s.records t
 
--- behind one event
+-- after one event
 plain_after : (plan : List Planned) (e : Event) (was : Bool) → IsStep plan e → (was ≡ true → IsPlainAt e.before) → (if is_of_volume e.item then is_ok e.reply else was) ≡ true → IsPlainAt e.after
 plain_after plan e was step before on = by (is_of_volume e.item) refl on
   where

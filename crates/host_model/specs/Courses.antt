@@ -29,7 +29,7 @@ abbrev pub is_numbering : ℕ → Due
 is_numbering k whole (Address devices) = devices == k
 is_numbering k whole _ = false
 
--- the one byte of an answer that the host stops behind it
+-- the one byte of an answer that the host stops after it
 abbrev pub is_one_byte : ℕ → ℕ → Answer → Bool
 is_one_byte party byte (Stopped p [] echo) = (p == party) && (byte_of echo.sent == byte)
 is_one_byte party byte _ = false
@@ -84,7 +84,7 @@ abbrev pub bytes_due : Option ℕ → List ℕ → List Due
 bytes_due None bytes = []
 bytes_due (Some party) bytes = is_said party bytes ∷ []
 
--- what a command of the loop makes behind the addressing
+-- what a command of the loop makes after the addressing
 abbrev pub course_of : Item → LoopState → Option (List Due)
 course_of (Asks Devices) z = Some (ids_due 1 (all_ids z))
 course_of (Asks Status) z = Some (is_status_told (drive_at z) (status_byte z) ∷ [])

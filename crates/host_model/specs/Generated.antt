@@ -6,11 +6,11 @@ use Rattle.host_model.specs.Replies.{bytes_text}
 
 -- ---- draws
 
--- the state behind a draw
+-- the state after a draw
 abbrev pub draw : ℕ → ℕ
 draw x = (x * 1103515245 + 12345) % 2147483648
 
--- the number that a draw gives, by the state behind it
+-- the number that a draw gives, by the state after it
 abbrev pub drawn : ℕ → ℕ
 drawn x = x / 65536
 
@@ -47,7 +47,7 @@ stores c = nat_lt (c % 4) 2
 abbrev pub chosen_line : ℕ → ℕ → ℕ → List ℕ
 chosen_line j c l = if stores c then store_line j l else if c % 4 == 2 then purge_line j else fetch_line j
 
--- the lines behind the first, from this state on: two draws a line, and a third one for the size of a file
+-- the lines after the first, from this state on: two draws a line, and a third one for the size of a file
 abbrev pub more_lines : ℕ → ℕ → List (List ℕ)
 more_lines x zero = []
 more_lines x (suc count) =

@@ -30,7 +30,7 @@ joined_exchanges events = flat_map (λ e. log_unless (is_lending e.item) e.log) 
 abbrev pub all_links : ℕ → List Event → ℕ
 all_links k events = sum_by (λ e. links k e.log) events
 
--- the count of crossings behind these events
+-- the count of crossings after these events
 abbrev pub crossed_behind : HostState → List Event → ℕ
 crossed_behind start events = risen_by (all_links (device_count start.loop) events) start.crossings
 
@@ -80,7 +80,7 @@ pub record RunTells (plan : List Planned) (start : HostState) (events : List Eve
   -- the crossings and the frames of each device are those that they stand for
   pub crossings : finish.crossings ≡ crossed_behind start events
   pub frames : BoxedBecome (TookAll (device_count start.loop) events) start.loop finish.loop
-  -- a reply is `fault frame` exactly where a planned hop lies behind the crossings of the logs before, and not behind those of its own; of
+  -- a reply is `fault frame` exactly where a planned hop comes after the crossings of the logs before, and not after those of its own; of
   -- a lend it is so only there
   pub lost : (done : List Event) (e : Event) (more : List Event) → events ≡ done ++ e ∷ more
       → IsLostWhere e.item (e.reply ≡ reply.FaultFrame) (met (hops_of plan) (crossed_behind start done) (crossed_behind start (done ++ e ∷ [])) ≢ [])

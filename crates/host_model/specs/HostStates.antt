@@ -14,9 +14,9 @@ pub record HostState : Type 0 where
   pub faults : ℕ
   -- how many crossings of links there were so far; the count stays at its greatest value
   pub crossings : ℕ
-  -- the devices have their addresses, since no exchange broke off behind the last addressing
+  -- the devices have their addresses, since no exchange broke off after the last addressing
   pub ready : Bool
-  -- records can be read and written; behind a fault they cannot until the drive is cleared
+  -- records can be read and written; after a fault they cannot until the drive is cleared
   pub sound : Bool
   -- the directory of a legal volume is kept in memory; then the store is sound
   pub kept : Bool

@@ -4,6 +4,7 @@ use Rattle.std.specs.Io.KnownBytes.{Appends, IsAtEnd}
 use Rattle.lif_model.specs.Shelf.{Shelf, OthersStay, bytes_of, image_of, largest_image}
 use Rattle.lif_model.specs.Tape.{Tape}
 use Rattle.lif_model.specs.Finished.{IsPlain}
+use Rattle.il_ports.specs.Writing.{WritesFront}
 use Rattle.il_script.specs.declared.limits.TheConstants.{LONGEST_SCRIPT}
 use Rattle.il_script.specs.LineCut.{line_cut, line_told}
 use Rattle.il_ring.specs.declared.plan.Planned.{Planned}
@@ -55,10 +56,6 @@ AsksAs None end before left items = (script : List ℕ) → before ≡ Some scri
 AsksAs (Some script) end before left items = AsksGenerated end script items × (left ≡ before)
 
 -- ---- what was written
-
--- a front of the text
-abbrev pub WritesFront : Option (List ℕ) → Option (List ℕ) → List ℕ → Type 0
-WritesFront before now text = (size : ℕ) × (size ≤ length text) × Appends before now (take size text)
 
 -- the text of all events but the last, and of the last a front
 pub record WritesToLast (mode : OutputMode) (events : List Event) (texts : List (List ℕ)) (before now : Option (List ℕ)) : Type 0 where
@@ -167,7 +164,7 @@ abbrev pub IsOrder : Option Order → (Order → Type 0) → Type 0
 IsOrder None P = ⊥
 IsOrder (Some order) P = P order
 
--- There was no memory: for the words, and then no tape is in; or for the host, behind the insert.
+-- There was no memory: for the words, and then no tape is in; or for the host, after the insert.
 abbrev pub LeavesUnopened : Option Order → Outside → Outside → (Tape → Type 0) → Type 0
 LeavesUnopened asked old now stopped = (IsEmpty old now × (now.faults ≡ old.faults)) ⊎ IsOrder asked (λ order. LeavesImage order old now stopped)
 

@@ -15,7 +15,7 @@ use Rattle.il_ring.specs.Rings.{printer_id, has_id, paper_of}
 use Rattle.loop_model.specs.Loops.{Loop, host_loop}
 use Rattle.loop_model.specs.Polls.{poll_place, polled_along}
 
--- The devices before the drive, in the order of the ring; the drive's status, 0 to 3, and its roles; the devices behind it; and the last
+-- The devices before the drive, in the order of the ring; the drive's status, 0 to 3, and its roles; the devices after it; and the last
 -- address that a second controller asks, where there is one. Its device is the last of those.
 pub record LoopState : Type 0 where
   pub before : List DeviceState
@@ -60,7 +60,7 @@ status_byte z = status_byte_of z.status
 
 -- ---- the parallel poll (HP-IL Interface Specification, parallel poll)
 
--- The identify frame that comes back to the host, behind the devices before the drive, the drive and those behind it. The drive wants
+-- The identify frame that comes back to the host, after the devices before the drive, the drive and those after it. The drive wants
 -- service while its status is not 0.
 abbrev pub poll_frame : LoopState → Frame
 poll_frame z =

@@ -28,14 +28,14 @@ HearsSaid bytes reply.Ok d e = HearsAll bytes d e
 HearsSaid bytes reply.FaultFrame d e = (whole : ℕ) × (whole ≤ length bytes) × HearsInPart whole bytes d e
 HearsSaid bytes r d e = HearsNothing d e
 
--- no other device hears anything, and behind no other item any device does
+-- no other device hears anything, and after no other item any device does
 abbrev pub HearsOf : Item → Reply → LoopState → ℕ → DeviceState → DeviceState → Type 0
 HearsOf (Asks (Say bytes)) r z party d e = MatchBool (is_party party (printer_at z)) (HearsSaid bytes r d e) (HearsNothing d e)
 HearsOf _ r z party d e = HearsNothing d e
 
 -- ---- service
 
--- these items leave alone whether a device wants service; behind every other that is the device's own matter
+-- these items leave alone whether a device wants service; after every other that is the device's own matter
 abbrev pub leaves_service : Item → Bool
 leaves_service (Asks Poll) = true
 leaves_service (Asks Paper) = true
@@ -44,7 +44,7 @@ leaves_service (NoCommand c) = true
 
 -- ---- the drive's status
 
--- 0 behind a command of the volume, but where a frame was lost or altered
+-- 0 after a command of the volume, but where a frame was lost or altered
 abbrev pub StatusBehindVolume : Reply → ℕ → Type 0
 StatusBehindVolume reply.FaultFrame now = now ≤ 3
 StatusBehindVolume r now = now ≡ 0

@@ -33,7 +33,7 @@ abbrev pub mode_of : Order → OutputMode
 mode_of order = mode_by order.generated order.quiet
 
 -- the shelf, the tape in the drive, what is left of the script and what was written, each where it is told; the medium's count
--- of faults; the devices before and behind the drive; and a second controller
+-- of faults; the devices before and after the drive; and a second controller
 pub record Outside : Type 0 where
   pub shelf : Option Shelf
   pub tape : Option Tape
@@ -44,7 +44,7 @@ pub record Outside : Type 0 where
   pub after : List DeviceState
   pub guest : Option GuestState
 
--- the second controller that is on the loop, behind all devices, or none
+-- the second controller that is on the loop, after all devices, or none
 abbrev pub taking_part : Bool → Option GuestState → Option GuestState
 taking_part true guest = guest
 taking_part false guest = None

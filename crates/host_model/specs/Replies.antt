@@ -21,7 +21,7 @@ use Rattle.il_script.specs.Replies.{text_line, next, reply_line, code_of}
 use Rattle.il_script.specs.declared.reply.Code.TheVariants as code
 use Rattle.il_script.specs.declared.reply.Reply.{Reply}
 use Rattle.il_script.specs.declared.reply.Reply.TheVariants as reply
-use Rattle.il_ring.specs.Statuses.{last_told}
+use Rattle.il_ring.specs.Statuses.{last_known}
 use Rattle.host_model.specs.Requests.{OfVolume, Get, Pack, Devices, Status, Poll, Say, Paper, Lend, Item, Asks, NoCommand, text_type}
 use Rattle.host_model.specs.LoopStates.{addresses_asked, all_ids, device_count, status_byte, poll_frame, printer_at, paper_on}
 use Rattle.host_model.specs.HostStates.{HostState, volume_at}
@@ -84,7 +84,7 @@ abbrev pub packed_unless : ℕ → Option Refusal → Option Volume → Option V
 packed_unless n None volume = option_map (packed n) volume
 packed_unless n (Some refusal) volume = volume
 
--- the volume behind an item, where no fault comes in between
+-- the volume after an item, where no fault comes in between
 abbrev pub volume_behind : Item → HostState → Option Volume
 volume_behind (Asks (OfVolume command)) s = (apply s.records command (volume_at s)).1
 volume_behind (Asks Pack) s = packed_unless s.records (pack_refusal s.records (volume_at s)) (volume_at s)
@@ -167,7 +167,7 @@ guest_line address status = text_line (codes "guest" ++ next (decimal address) +
 
 -- of each of these addresses its last status that this log tells to party k
 abbrev pub guest_lines : ℕ → List Entry → List ℕ → List ℕ
-guest_lines k log addresses = flat_map (λ a. guest_line a (last_told k a log)) addresses
+guest_lines k log addresses = flat_map (λ a. guest_line a (last_known k a log)) addresses
 
 -- By what stands before the command. That of a lend are told by its log.
 abbrev pub lines_before : Item → HostState → List Entry → List ℕ

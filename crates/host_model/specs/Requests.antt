@@ -108,7 +108,7 @@ lone_items lines = filter_map item_of lines
 
 -- ---- batches of a script
 
--- What stands open behind some lines: no batch; one with these parts; or one that a line has spoilt, by the code that tells why.
+-- What stands open after some lines: no batch; one with these parts; or one that a line has spoilt, by the code that tells why.
 pub data Gathering : Type 0 where
   Outside : Gathering
   Within : List Part → Gathering
@@ -165,7 +165,7 @@ reads_as test (Ok None) = false
 reads_as test (Ok (Some asked)) = test asked.command
 reads_as test (Err why) = false
 
--- what stands open behind a line more
+-- what stands open after a line more
 abbrev pub gathering_by : Gathering → Result (Option Asked) Code → Gathering
 gathering_by Outside read = if reads_as is_begin read then Within [] else Outside
 gathering_by (Within parts) read = within_read parts read
@@ -186,7 +186,7 @@ items_from g (line ∷ lines) = cons_option (item_by g (reads line)) (items_from
 abbrev pub items_in : List (Option (List ℕ)) → List Item
 items_in lines = items_from Outside lines
 
--- what stands open behind some lines
+-- what stands open after some lines
 abbrev pub gathered : Gathering → List (Option (List ℕ)) → Gathering
 gathered g [] = g
 gathered g (line ∷ lines) = gathered (gathering_by g (reads line)) lines

@@ -1,4 +1,4 @@
--- Runs: lists of events, one behind the other, and what they tell.
+-- Runs: lists of events, one after the other, and what they tell.
 use Rattle.std.specs.Prelude.{◌≡◌, ℕ, ◌+◌, Bool, if◌then◌else◌, List, [], ◌∷◌, ◌++◌, length, map, codes, decimal}
 use Rattle.std.specs.List.{flat_map, list_all}
 use Rattle.il_frames.specs.declared.entry.Entry.{Entry}
@@ -98,7 +98,7 @@ abbrev pub event_texts : OutputMode → List Event → List (List ℕ) → List 
 event_texts mode (e ∷ events) (text ∷ texts) = event_text mode e text ++ event_texts mode events texts
 event_texts mode events texts = []
 
--- what is written behind the last event
+-- what is written after the last event
 abbrev pub closing_text : OutputMode → List Event → List ℕ
 closing_text Summary events = summary events
 closing_text _ events = []

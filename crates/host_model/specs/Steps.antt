@@ -1,4 +1,4 @@
--- One step of a run: an item, what was replied, the log, and what stands before and behind.
+-- One step of a run: an item, what was replied, the log, and what stands before and after.
 use Rattle.std.specs.Prelude.{◌≡◌, ◌≢◌, ◌⊎◌, ◌≤◌, ◌++◌, ◌==◌, ◌&&◌, ◌||◌, ℕ, Bool, All, true, false, not, List, [], ◌∷◌, length, Option, Some, None, is_some, IfSome}
 use Rattle.std.specs.List.{list_any}
 use Rattle.std.specs.Str.{bytes_eq}
@@ -32,8 +32,8 @@ use Rattle.il_script.specs.declared.reply.Reply.TheVariants as reply
 use Rattle.il_ring.specs.declared.plan.Planned.{Planned}
 use Rattle.il_ring.specs.Plans.{hops_of}
 use Rattle.il_ring.specs.Fates.{IsByPlan}
-use Rattle.il_ring.specs.Lends.{Lend as Lending, came_back, is_lend, is_whole_lend, lend_address, lend_entries, tells_own, was_taken}
-use Rattle.il_ring.specs.Statuses.{ToldStatus, answers_always, told_by}
+use Rattle.il_ring.specs.Lends.{Lend as Lending, came_back, is_lend, is_whole_lend, lend_address, lend_entries, reports_own, was_taken}
+use Rattle.il_ring.specs.Statuses.{ReportsStatus, answers_always, reported_by}
 use Rattle.host_model.specs.Requests.{OfVolume, Get, Pack, Lend, Item, Asks, is_lending, is_of_volume, uses_frames}
 use Rattle.host_model.specs.LoopStates.{LoopState, addresses_asked, all_roles, device_count, drive_at, ring_of}
 use Rattle.host_model.specs.HostStates.{HostState, volume_at, HasOwnGate, log_room}
@@ -139,13 +139,13 @@ is_fault reply.FaultMedium = true
 is_fault _ = false
 
 -- `fault frame` comes where a planned hop was met, and nowhere else. Without one, `fault medium` comes where the medium failed
--- and the drive's status told it, and nowhere else: each status byte behind a transfer of records is 0, or one is not.
+-- and the drive's status told it, and nowhere else: each status byte after a transfer of records is 0, or one is not.
 abbrev pub HasReplyCause : Reply → List ℕ → ℕ → ℕ → List RecordUnit → Type 0
 HasReplyCause reply.FaultFrame hops before now units = (hops ≢ []) × (before ≤ now)
 HasReplyCause reply.FaultMedium hops before now units = (hops ≡ []) × Rose before now × (all_good units ≡ false)
 HasReplyCause r hops before now units = (hops ≡ []) × (now ≡ before) × (all_good units ≡ true)
 
--- where the tape is told before, it is told behind, and the two stand so
+-- where the tape is told before, it is told after, and the two stand so
 abbrev pub OnTapes : Option Tape → Option Tape → (Tape → Tape → Type 0) → Type 0
 OnTapes None now P = Unit {0}
 OnTapes (Some t) None P = ⊥
@@ -188,7 +188,7 @@ IsCarried _ _ n volume units = Unit {0}
 
 -- By one reading the log is a list of exchanges, all whole, or the last one broken off exactly where the reply is `fault
 -- frame`: those that the command is to make, in their order. A command of the volume first clears the drive, where the store is
--- not sound. The transfers of records, none left open, made the tape before into the one behind.
+-- not sound. The transfers of records, none left open, made the tape before into the one after.
 pub record Exchanged (plan : List Planned) (e : Event) : Type 0 where
   pub reading : Reading (ring_of e.before.loop) e.log
   pub ends : ends_as (not (is_frame_fault e.reply)) reading.pieces ≡ true
@@ -211,7 +211,7 @@ entries_lent z (Some lend) = lend_entries (device_count z) (addresses_asked z) l
 -- The lend is whole, unless it is a fault. The drive answers each SST that asks it.
 pub record IsLendOf (z : LoopState) (frames : ℕ) (reply : Reply) (lend : Lending) : Type 0 where
   pub is : is_lend (device_count z) (addresses_asked z) frames lend ≡ true
-  pub own : tells_own (addresses_asked z) lend ≡ true
+  pub own : reports_own (addresses_asked z) lend ≡ true
   pub address : lend_address lend ≡ device_count z
   pub whole : is_whole_lend lend ≡ not (is_frame_fault reply)
   pub taken : was_taken lend ≡ true → is_some z.guest ≡ true
@@ -235,7 +235,7 @@ pub record Lent (plan : List Planned) (frames : ℕ) (e : Event) : Type 0 where
   pub untaken : e.before.loop.guest ≡ None → is_frame_fault e.reply ≡ false → met (hops_of plan) e.before.crossings e.after.crossings ≡ []
   pub unmet : is_some lent ≡ true → met (hops_of plan) e.before.crossings (risen_by (links (device_count e.before.loop) front) e.before.crossings) ≡ []
   pub faults : e.after.faults ≡ e.before.faults
-  pub told : is_frame_fault e.reply ≡ false → ToldStatus e.before.loop.status (told_by (device_count e.before.loop) (drive_at e.before.loop) e.log) e.after.loop.status
+  pub told : is_frame_fault e.reply ≡ false → ReportsStatus e.before.loop.status (reported_by (device_count e.before.loop) (drive_at e.before.loop) e.log) e.after.loop.status
 
 -- ---- a step
 
@@ -261,12 +261,12 @@ pub record Acts (plan : List Planned) (e : Event) : Type 0 where
   pub lent : (frames : ℕ) → e.item ≡ Asks (Lend frames) → Lent plan frames e
   -- each frame that was lost, and each byte that was altered, was so by a fault planned at a crossing of this log
   pub by_plan : All (IsByPlan plan e.before.crossings e.after.crossings) e.log
-  -- behind a command that sends frames the loop is ready, unless an exchange broke off
+  -- after a command that sends frames the loop is ready, unless an exchange broke off
   pub ready : uses_frames e.item ≡ true → e.after.ready ≡ not (is_frame_fault e.reply)
   -- the host controls a loop that is ready, and takes control of another first
   pub controls : e.after.ready ≡ true → controller_after 0 e.log ≡ 0
   pub clears : uses_frames e.item ≡ true → e.before.ready ≡ false → takes_back_first e.log ≡ true
-  -- Behind a command of the volume the store is sound, unless it replied a fault. Another command that sends frames leaves it as it
+  -- After a command of the volume the store is sound, unless it replied a fault. Another command that sends frames leaves it as it
   -- was, unless an exchange broke off, or control was lent.
   pub sound : is_of_volume e.item ≡ true → e.after.sound ≡ not (is_fault e.reply)
   pub unsound : is_of_volume e.item ≡ false → uses_frames e.item ≡ true → e.after.sound ≡ (e.before.sound && leaves_sound e.item e.reply)

@@ -4,6 +4,7 @@ use Rattle.std.specs.Io.KnownBytes.{Appends, IsAtEnd}
 use Rattle.lif_model.specs.Causes.{Rose}
 use Rattle.lif_model.specs.Tape.{Tape}
 use Rattle.il_ports.specs.Media.{MediumView}
+use Rattle.il_ports.specs.Writing.{WritesFront}
 use Rattle.il_ports.specs.Inserting.{InsertAnswers, Refuses}
 use Rattle.il_ports.specs.declared.medium.Inserted.TheVariants as inserted
 use Rattle.il_ports.specs.declared.medium.New.TheVariants as making
@@ -21,13 +22,8 @@ use Rattle.il_check.specs.Verdicts.{IsVerdict}
 
 -- all of the text, or a front of it where the sink failed
 abbrev pub PutsAs : Ending → List ℕ → Option (List ℕ) → Option (List ℕ) → Type 0
-PutsAs ending.SinkFailed text before now = (size : ℕ) × (size ≤ length text) × Appends before now (take size text)
+PutsAs ending.SinkFailed text before now = WritesFront before now text
 PutsAs end text before now = Appends before now text
-
--- the same of a write that may have failed
-abbrev pub PutsAll : {E : Type 0} → Option (List ℕ) → Option (List ℕ) → List ℕ → Result (Unit {0}) E → Type 0
-PutsAll before now text (Ok u) = Appends before now text
-PutsAll before now text (Err e) = PutsAs ending.SinkFailed text before now
 
 -- ---- the trace
 

@@ -12,5 +12,4 @@ mod words;
 
 pub use reading::LONGEST_TRACE;
 pub use run::run_check;
-pub use telling::write_all;
 pub use verdict::TraceFault;

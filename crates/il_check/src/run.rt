@@ -9,11 +9,11 @@ ghost use Rattle.il_check.specs.Whole.{CheckLeaves, CheckedBy, InsertFailedBy, C
 use crate::ending::Ending;
 use crate::reading::{Cut, read_trace};
 use crate::tapes::{effects_on, insert, label_on, read_tape};
-use crate::telling::{Label, ROOM, put_verdict, write_all};
+use crate::telling::{Label, ROOM, put_verdict};
 use crate::tracing::Tracing;
 use crate::verdict::TraceFault;
 use crate::words::{read_party, word};
-use il_ports::{Medium, Sink, Source};
+use il_ports::{Medium, Sink, Source, write_all};
 use il_script::Page;
 use lif_model::Record;
 use std::alloc::Global;

@@ -1,10 +1,7 @@
 ghost use Rattle.std.specs.Prelude.{◌≡◌, ◌≤◌, ◌+◌, ◌++◌, [], length, codes, map, option_map};
-ghost use Rattle.lif_model.specs.Causes.{HasCause};
 ghost use Rattle.il_check.specs.Telling.{tape_line, verdict_text};
-ghost use Rattle.il_check.specs.Whole.{PutsAll};
 
 use crate::verdict::TraceFault;
-use il_ports::{Failed, Sink};
 use il_script::Page;
 
 /// The label of a volume, with its spaces, or `None` of a tape that has no volume.
@@ -12,19 +9,6 @@ pub(crate) type Label = Option<[u8; 6]>;
 
 /// How many bytes are written, at most.
 pub(crate) const ROOM: usize = 100;
-
-/// Writes all of the bytes, in as many pieces as the sink takes. After a fault a front of them was written.
-pub fn write_all<K: Sink>(out: &mut K, bytes: &[u8]) -> Result<(), Failed>
-    ensures bytes { PutsAll (K.written out.old) (K.written out.new) bytes.now result }
-    ensures cause { HasCause (K.faults out.old) (K.faults out.new) result }
-{
-    let mut from = 0;
-    'pieces: while from < bytes.len() {
-        let count = out.write(&bytes[from..])?;
-        from += count;
-    }
-    Ok(())
-}
 
 /// Puts the line of a tape's label.
 fn put_label(page: &mut Page, word: &[u8], label: Label)

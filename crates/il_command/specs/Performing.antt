@@ -1,7 +1,5 @@
 -- What the program does by its arguments: what a run and a check over named images leave, and which of the two was made.
-use Rattle.std.specs.Prelude.{◌≡◌, ◌≢◌, ℕ, List, Option, None, map}
-use Rattle.std.specs.declared.io.ErrorKind.{ErrorKind}
-use Rattle.std.specs.declared.io.ErrorKind.TheVariants as kinds
+use Rattle.std.specs.Prelude.{◌≡◌, ℕ, List, Option, None, map}
 use Rattle.il_device.specs.State.{DeviceState}
 use Rattle.il_guest.specs.State.{GuestState}
 use Rattle.il_ports.specs.Files.{FileView}
@@ -86,7 +84,3 @@ module _ {A B : Type 0} where
   status_made of_run of_check (performed.Unread status) = status
   status_made of_run of_check (performed.Ran run) = of_run run
   status_made of_run of_check (performed.Checked check) = of_check check
-
--- the exit status if the arguments were not read, by the kind of the error
-abbrev pub IsUnreadStatus : ErrorKind → ℕ → Type 0
-IsUnreadStatus kind status = (kind ≡ kinds.OutOfMemory → status ≡ 7) × (kind ≢ kinds.OutOfMemory → status ≡ 2)

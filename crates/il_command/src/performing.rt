@@ -7,14 +7,16 @@ ghost use Rattle.std.specs.Process.{exit_status};
 ghost use Rattle.il_ring.specs.Guests.{IsIdleGuest, MayBeGuest, guest_devices};
 ghost use Rattle.il_ring.specs.Rings.{MayStand};
 ghost use Rattle.il_command.specs.Messages.{line_of, way_of};
-ghost use Rattle.il_command.specs.Performing.{ChecksWith, IsCheck, IsRun, IsUnread, IsUnreadStatus, RunsWith};
+ghost use Rattle.exits.specs.Statuses.{IsUnreadStatus};
+ghost use Rattle.il_command.specs.Performing.{ChecksWith, IsCheck, IsRun, IsUnread, RunsWith};
 ghost use Rattle.il_command.specs.Performing.{devices, status_made, streams, way_made};
 ghost use Rattle.il_command.specs.declared.messages.Way.TheVariants.{Script, Check};
 
 use crate::checking::{Checked, check_with};
 use crate::messages::Way;
 use crate::running::{Finished, run_with};
-use crate::telling::{exit, told, unread_status};
+use crate::telling::told;
+use exits::{exit, unread_status};
 use il_device::Device;
 use il_guest::Guest;
 use il_ports::{Failed, Images, Sink, Source, StdSink, StdSource, TapeFile};

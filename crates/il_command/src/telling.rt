@@ -1,31 +1,14 @@
 ghost use Rattle.lif_model.specs.Causes.{HasCause};
 ghost use Rattle.std.specs.Prelude.{◌≡◌, OnOk};
 ghost use Rattle.std.specs.Io.KnownBytes.{Appends};
-ghost use Rattle.std.specs.IoError.{error_kind};
 ghost use Rattle.std.specs.Process.{exit_status};
 ghost use Rattle.il_command.specs.Messages.{line_of};
-ghost use Rattle.il_command.specs.Performing.{IsUnreadStatus};
 ghost use Rattle.il_command.specs.declared.messages.Way.TheVariants.{Script};
 
 use crate::messages::{Way, message};
-use il_check::write_all;
-use il_ports::{Failed, Sink};
-use std::io::{self, ErrorKind};
+use exits::{OUT_OF_MEMORY, exit};
+use il_ports::{Failed, Sink, write_all};
 use std::process::ExitCode;
-
-const BAD_WORDS: u8 = 2;
-
-const OUT_OF_MEMORY: u8 = 7;
-
-/// The exit status if the arguments were not read: for want of memory, or since one of them is not UTF-8.
-pub fn unread_status(error: &io::Error) -> u8
-    ensures { IsUnreadStatus (error_kind error.now) result }
-{
-    match error.kind() {
-        ErrorKind::OutOfMemory => OUT_OF_MEMORY,
-        _ => BAD_WORDS,
-    }
-}
 
 /// Writes what there is to tell of an exit status, as a line.
 pub fn told<K: Sink>(to: &mut K, way: Way, status: u8) -> Result<(), Failed>
@@ -37,13 +20,6 @@ pub fn told<K: Sink>(to: &mut K, way: Way, status: u8) -> Result<(), Failed>
     };
     write_all(to, text.as_bytes())?;
     write_all(to, b"\n")
-}
-
-/// How the process ends with that exit status.
-pub fn exit(status: u8) -> ExitCode
-    ensures { exit_status result ≡ status }
-{
-    ExitCode::from(status)
 }
 
 /// Tells that there is no memory to begin with. The first value is how the process ends, and the second is whether the

@@ -27,12 +27,12 @@ use Rattle.il_ring.proofs.PassKinds.{Unaddressed, OnlyPassed, aad_passes}
 use Rattle.il_ring.proofs.Passing.{Exactly}
 use Rattle.il_control.specs.Calls.{Whole, Broke, IsLost, addressing, IsAddressed, Resumed, NotResumed}
 use Rattle.il_control.proofs.Brought.{address_comes}
-use Rattle.il_control.proofs.Calls.{Done, pass_call, whole_then, broke_behind, broke_before, told_then, told_not}
+use Rattle.il_control.proofs.Calls.{Done, pass_call, whole_then, broke_after, broke_before, told_then, told_not}
 use Rattle.il_control.proofs.Made.{one_at_end}
 
 -- ---- roles
 
--- where all roles were taken away no device has an address
+-- if all roles were taken away no device has an address
 each_unaddressed : (k : ℕ) (ds : List DeviceState) (rs : List Roles) → 1 ≤ k → k + length ds ≤ 31 → roles_of ds ≡ cleared rs → Each Unaddressed k ds
 each_unaddressed k [] rs some few are = tt
 each_unaddressed k (d ∷ ds) [] some few are = cc
@@ -109,13 +109,13 @@ module _ {M : Type 0} (view : M → MediumView) (r : RingView M) (lost : IsLost 
   pub not_cleared : (s : RingView M) → Broke view r (commanded 0 ifc ++ commanded 0 aau) s → NotResumed view r s
   not_cleared s broke = not_resumed s (broke_before view r s (commanded 0 ifc ++ commanded 0 aau) (entries_of 0 (Address (length (devices_of r)))) broke)
 
-  -- behind IFC and AAU no device has an address
+  -- after IFC and AAU no device has an address
   pub unaddressed : (m : RingView M) → Whole view r (commanded 0 ifc ++ commanded 0 aau) m → Each Unaddressed 1 (devices_of m)
   unaddressed m first =
       each_unaddressed 1 (devices_of m) (roles_after rs (commanded 0 ifc)) (omega arith) (omega (arith, few, first.adds.size))
       (first.adds.roles ∙ roles_after-append rs (commanded 0 ifc) (commanded 0 aau) ∙ roles_after-aau (roles_after rs (commanded 0 ifc)))
 
-  -- AAD behind IFC and AAU
+  -- AAD after IFC and AAU
   pub address_call : (m s : RingView M) (held : Option Flight) (f : Frame) (answer : Arrival) → IsUnderHost m.guest → Whole view r (commanded 0 ifc ++ commanded 0 aau) m → Round view m held (sourced 0 f) answer s → f ≡ aad 1 → held ≡ None → AddressEnd view r answer s
   address_call m s held f answer host first round is none =
       ⊎_elim
@@ -126,7 +126,7 @@ module _ {M : Type 0} (view : M → MediumView) (r : RingView M) (lost : IsLost 
       let whole = whole_then view r m s (commanded 0 ifc ++ commanded 0 aau) (entries_of 0 (Address k)) lost.free.ring first last in
       let count : byte_of came.0 - 0x81 ≡ k = ap (λ g. byte_of g - 0x81) back ∙ counted k in
       subst (λ answer. AddressEnd view r answer s) (sym came.2) (subst (λ g. 0x81 ≤ byte_of g) (sym back) (at_least k), subst (λ n. Resumed view n r s) (sym count) (resumed s (subst IsUnderHost (sym round.guest) host) whole)))
-      (λ lost_now. subst (λ answer. AddressEnd view r answer s) (sym lost_now.0) (not_resumed s (broke_behind view r m s (commanded 0 ifc ++ commanded 0 aau) (entries_of 0 (Address (length (devices_of r)))) lost.free.ring first (lost_now.1 (outcome.Back (aad (suc (length (devices_of r)))))))))
+      (λ lost_now. subst (λ answer. AddressEnd view r answer s) (sym lost_now.0) (not_resumed s (broke_after view r m s (commanded 0 ifc ++ commanded 0 aau) (entries_of 0 (Address (length (devices_of r)))) lost.free.ring first (lost_now.1 (outcome.Back (aad (suc (length (devices_of r)))))))))
       (pass_call view (λ k g. g ≡ aad k) Unaddressed OnlyPassed aad_passes (λ d e passed. passed.0) m s held (aad 1) answer (subst (λ f. Round view m held (sourced 0 f) answer s) is round) none (record { ring = first.ring; held = first.held }) (unaddressed m first) refl (Exactly refl refl) (λ g at. address_comes (drive_party m) g at))
     where
       counted : (k : ℕ) → 0x80 + suc k - 0x81 ≡ k
@@ -139,7 +139,7 @@ module _ {M : Type 0} (view : M → MediumView) (r : RingView M) (lost : IsLost 
 pub count_of : {M : Type 0} (view : M → MediumView) (r s : RingView M) (g : Frame) (n first : ℕ) → n ≡ byte_of g → first ≡ 0x81 → AddressEnd view r (arrival.Frame g) s → (first ≤ n) × Resumed view (n - first) r s
 count_of view r s g n first is sent end = subst (λ n. (first ≤ n) × Resumed view (n - first) r s) (sym is) (subst (λ first. (first ≤ byte_of g) × Resumed view (byte_of g - first) r s) (sym sent) end)
 
--- IFC whole, and AAU behind it
+-- IFC whole, and AAU after it
 pub clear_done : {M : Type 0} (view : M → MediumView) (r m s : RingView M) (f g : Frame) (whole : Bool) → IsRing r → f ≡ ifc → g ≡ aau → Whole view r (commanded 0 f) m → Done view m (commanded 0 g) whole s → Done view r (commanded 0 ifc ++ commanded 0 aau) whole s
 clear_done view r m s f g whole ring is_first is_then first more = told_then view r m s f ifc (commanded 0 aau) whole ring is_first first (subst (λ g. Done view m (commanded 0 g) whole s) is_then more)
 

@@ -1,4 +1,4 @@
--- What devices obeyed, and how they stand when one of them was told to talk.
+-- What devices obeyed, and how they are when one of them was told to talk.
 use Rattle.std.proofs.Common.{◌≡◌, ◌∙◌, ◌≤◌, ◌<◌, ◌+◌, ◌++◌, ⊎_elim, ℕ, zero, suc, Bool, true, false, List, [], ◌∷◌, Option, Some, length, refl, sym, ap, subst}
 use Rattle.std.specs.Prelude.{if◌then◌else◌, MatchBool, IfSome}
 use Rattle.std.proofs.lemmas.Bool.{agree_below_at, le-leb}
@@ -44,7 +44,7 @@ plain_part view r s held f answer round free plain =
     let passed = passed_round view (Is f) Any (Obeys (message_of f)) (plain_passes f plain) r s held f answer free.ring.crossings (any_each 1 (devices_of r)) refl round in
     (passed.reached, passed.took)
 
--- ---- one message behind another
+-- ---- one message after another
 
 rfc_then : (m : Message) (c d e : DeviceState) → Obeys m c d → Obeys msg.Rfc d e → Obeys m c e
 rfc_then m c d e first more = record {
@@ -87,9 +87,9 @@ each_obeys R P Q rule k (d ∷ ds) (e ∷ es) took each = (rule k d e took.0 eac
 each_obeys R P Q rule k [] (e ∷ es) took each = absurd took
 each_obeys R P Q rule k (d ∷ ds) [] took each = absurd took
 
--- behind UNL no device listens
-pub deaf_behind : {M : Type 0} (r s : RingView M) (f : Frame) → f ≡ unl → Obeyed (message_of f) r s → Each IsDeaf 1 (devices_of s)
-deaf_behind r s f is obeyed =
+-- after UNL no device listens
+pub deaf_after : {M : Type 0} (r s : RingView M) (f : Frame) → f ≡ unl → Obeyed (message_of f) r s → Each IsDeaf 1 (devices_of s)
+deaf_after r s f is obeyed =
     each_obeys (Obeys msg.Unl) Any IsDeaf (λ k d e obeys any. ap (λ (roles : Roles). roles.listens) obeys.roles) 1 (devices_of r) (devices_of s)
     (subst (λ f. First (Obeys (message_of f)) (length (devices_of r)) (devices_of r) (devices_of s)) is obeyed) (any_each 1 (devices_of r))
 
@@ -97,9 +97,9 @@ listens_chosen : (b : Bool) (roles : Roles) → roles.listens ≡ false → (if 
 listens_chosen true roles deaf = refl
 listens_chosen false roles deaf = deaf
 
--- behind a talk address none has a frame of its own on the loop
-pub calm_behind : {M : Type 0} (r s : RingView M) (f : Frame) (a : ℕ) → f ≡ tad a → a ≤ 30 → Obeyed (message_of f) r s → Each IsDeaf 1 (devices_of r) → Each IsCalm 1 (devices_of s)
-calm_behind r s f a is low obeyed deaf =
+-- after a talk address none has a frame of its own on the loop
+pub calm_after : {M : Type 0} (r s : RingView M) (f : Frame) (a : ℕ) → f ≡ tad a → a ≤ 30 → Obeyed (message_of f) r s → Each IsDeaf 1 (devices_of r) → Each IsCalm 1 (devices_of s)
+calm_after r s f a is low obeyed deaf =
     each_obeys (Obeys (msg.Tad a)) IsDeaf IsCalm (λ k d e obeys deaf. (ap (λ (roles : Roles). roles.listens) obeys.roles ∙ listens_chosen (is_own d.roles.address a) d.roles deaf, obeys.own)) 1 (devices_of r) (devices_of s)
     (subst (λ m. First (Obeys m) (length (devices_of r)) (devices_of r) (devices_of s)) (ap message_of is ∙ message_of-tad a (le-leb a 30 low)) obeyed) deaf
 
@@ -122,10 +122,10 @@ calm_still r s f n is small obeyed calm =
 
 -- ---- as calls
 
--- the talk address whole, and what was done behind it
+-- the talk address whole, and what was done after it
 pub asked_done : {M : Type 0} (view : M → MediumView) (r m s : RingView M) (f : Frame) (a : ℕ) (number : Option ℕ) (whole : Bool) → IsRing r → f ≡ unl → Whole view r (commanded 0 f) m → Obeyed (message_of f) r m → Done view m (commanded 0 (tad a) ++ numbered 0 ddt number) whole s
     → (whole ≡ true → Each IsDeaf 1 (devices_of m) → Each IsCalm 1 (devices_of s)) → MatchBool whole (Asked view a number r s) (Broke view r (receive_front 0 a number) s)
-asked_done view r m s f a number true ring is first obeyed more calm = record { whole = told_then view r m s f unl (commanded 0 (tad a) ++ numbered 0 ddt number) true ring is first more; calm = calm refl (deaf_behind r m f is obeyed) }
+asked_done view r m s f a number true ring is first obeyed more calm = record { whole = told_then view r m s f unl (commanded 0 (tad a) ++ numbered 0 ddt number) true ring is first more; calm = calm refl (deaf_after r m f is obeyed) }
 asked_done view r m s f a number false ring is first obeyed more calm = told_then view r m s f unl (commanded 0 (tad a) ++ numbered 0 ddt number) false ring is first more
 
 pub not_asked : {M : Type 0} (view : M → MediumView) (r s : RingView M) (f : Frame) (a : ℕ) (number : Option ℕ) (whole : Bool) → f ≡ unl → whole ≡ false → Broke view r (commanded 0 f) s → MatchBool whole (Asked view a number r s) (Broke view r (receive_front 0 a number) s)
@@ -135,7 +135,7 @@ not_asked view r s f a number whole is not broke =
 
 pub talk_calm : {M : Type 0} (view : M → MediumView) (r m s : RingView M) (f : Frame) (a : ℕ) (number : Option ℕ) (whole : Bool) → Whole view r (commanded 0 f) m → Done view m (numbered 0 ddt number) whole s → f ≡ tad a → a ≤ 30 → Obeyed (message_of f) r m
     → (whole ≡ true → Each IsCalm 1 (devices_of m) → Each IsCalm 1 (devices_of s)) → whole ≡ true → Each IsDeaf 1 (devices_of r) → Each IsCalm 1 (devices_of s)
-talk_calm view r m s f a number whole first more is low obeyed calm done deaf = calm done (calm_behind r m f a is low obeyed deaf)
+talk_calm view r m s f a number whole first more is low obeyed calm done deaf = calm done (calm_after r m f a is low obeyed deaf)
 
 pub number_calm : {M : Type 0} (view : M → MediumView) (r s : RingView M) (f : Frame) (n : ℕ) (number : Option ℕ) (whole : Bool) → Done view r (commanded 0 f) whole s → f ≡ ddt n → number ≡ Some n → IfSome number (λ n. n < 32) → (whole ≡ true → Obeyed (message_of f) r s)
     → whole ≡ true → Each IsCalm 1 (devices_of r) → Each IsCalm 1 (devices_of s)

@@ -1,4 +1,4 @@
--- The places in the parallel poll behind UNL, a listen address and PPE: the device of that address has the place that was given, and every
+-- The places in the parallel poll after UNL, a listen address and PPE: the device of that address has the place that was given, and every
 -- other one the place that it had.
 use Rattle.std.proofs.Common.{◌≡◌, ◌∙◌, ◌≤◌, ◌<◌, ◌+◌, ◌==◌, ◌⊎◌, inl, inr, ℕ, zero, suc, Bool, true, false, List, [], ◌∷◌, Option, Some, None, length, refl, sym, ap, subst, arith}
 use Rattle.std.specs.Prelude.{if◌then◌else◌}
@@ -42,7 +42,7 @@ pub record MayHavePlace (a n k : ℕ) (d e : DeviceState) : Type 0 where
 
 -- ---- one device
 
--- a device that listens exactly where it is party a
+-- a device that listens if and only if it is party a
 record IsChosen (a k : ℕ) (d e : DeviceState) : Type 0 where
   listens : e.roles.listens ≡ (k == a)
   place : e.assignment ≡ d.assignment
@@ -119,8 +119,8 @@ some_given a n k j (c ∷ cs) (d ∷ ds) [] first more = absurd more
 
 -- ---- three commands
 
-chosen_behind : {M : Type 0} (r m u : RingView M) (a : ℕ) (f g : Frame) → IsIdle r → a ≤ 30 → f ≡ unl → g ≡ lad a → Obeyed (message_of f) r m → Obeyed (message_of g) m u → EachBecomes (IsChosen a) 1 (devices_of r) (devices_of u)
-chosen_behind r m u a f g idle low is_unl is_lad first more =
+chosen_after : {M : Type 0} (r m u : RingView M) (a : ℕ) (f g : Frame) → IsIdle r → a ≤ 30 → f ≡ unl → g ≡ lad a → Obeyed (message_of f) r m → Obeyed (message_of g) m u → EachBecomes (IsChosen a) 1 (devices_of r) (devices_of u)
+chosen_after r m u a f g idle low is_unl is_lad first more =
     all_chosen a 1 (devices_of r) (devices_of m) (devices_of u) idle.numbered (subst (λ f. First (Obeys (message_of f)) (length (devices_of r)) (devices_of r) (devices_of m)) is_unl first)
     (subst (λ message. First (Obeys message) (length (devices_of m)) (devices_of m) (devices_of u)) (ap message_of is_lad ∙ message_of-lad a (le-leb a 30 low)) more)
 
@@ -128,12 +128,12 @@ chosen_behind r m u a f g idle low is_unl is_lad first more =
 pub place_given : {M : Type 0} (r m u s : RingView M) (a n : ℕ) (f g h : Frame) → IsIdle r → a ≤ 30 → n < 16 → f ≡ unl → g ≡ lad a → h ≡ poll_enable n → Obeyed (message_of f) r m → Obeyed (message_of g) m u → Obeyed (message_of h) u s
     → EachBecomes (GivenPlace a n) 1 (devices_of r) (devices_of s)
 place_given r m u s a n f g h idle low small is_unl is_lad is_ppe first more last =
-    all_given a n 1 (devices_of r) (devices_of u) (devices_of s) (chosen_behind r m u a f g idle low is_unl is_lad first more)
+    all_given a n 1 (devices_of r) (devices_of u) (devices_of s) (chosen_after r m u a f g idle low is_unl is_lad first more)
     (subst (λ message. First (Obeys message) (length (devices_of u)) (devices_of u) (devices_of s)) (ap message_of is_ppe ∙ message_of-ppe n small) last)
 
 -- PPE was broken off
 pub place_in_part : {M : Type 0} (r m u s : RingView M) (a n : ℕ) (f g h : Frame) → IsIdle r → a ≤ 30 → n < 16 → f ≡ unl → g ≡ lad a → h ≡ poll_enable n → Obeyed (message_of f) r m → Obeyed (message_of g) m u → ObeyedInPart (message_of h) u s
     → EachBecomes (MayHavePlace a n) 1 (devices_of r) (devices_of s)
 place_in_part r m u s a n f g h idle low small is_unl is_lad is_ppe first more last =
-    some_given a n 1 last.0 (devices_of r) (devices_of u) (devices_of s) (chosen_behind r m u a f g idle low is_unl is_lad first more)
+    some_given a n 1 last.0 (devices_of r) (devices_of u) (devices_of s) (chosen_after r m u a f g idle low is_unl is_lad first more)
     (subst (λ message. First (Obeys message) last.0 (devices_of u) (devices_of s)) (ap message_of is_ppe ∙ message_of-ppe n small) last.1)

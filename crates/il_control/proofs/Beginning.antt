@@ -40,7 +40,7 @@ use Rattle.il_ring.proofs.SendLaws.{kept_sent}
 use Rattle.il_ring.proofs.StartDrive.{start_at_drive}
 use Rattle.il_control.specs.Calls.{IsFree, Unheard, Whole}
 use Rattle.il_control.specs.Brought.{Brought, BroughtIf, CutBrought, ComesAs}
-use Rattle.il_control.specs.Receives.{AddsBy, Brings, IsCalm, IsDeaf, IsNameless, Began, NotBegun, StartLost, FirstLost, Begins, own_frames}
+use Rattle.il_control.specs.Receives.{AddsBy, Brings, IsCalm, IsDeaf, IsNameless, BeginWhole, BeginBroken, StartLost, FirstLost, Begins, own_frames}
 use Rattle.il_control.specs.declared.receiving.Begun.TheVariants as begun
 use Rattle.il_control.proofs.Brought.{cut_brought_one, may_come}
 use Rattle.il_control.proofs.Relaying.{deaf_unheard, deaf_still, right_echo, spoken_one}
@@ -97,8 +97,8 @@ start_roles rs s p = roles_after-kept rs (entry 0 (start_frame s) (outcome.Taken
 -- what came of it, by what arrived and whether a frame is held then
 pub data StartEnd {M : Type 0} (view : M → MediumView) (r : RingView M) (f : Frame) (answer : Arrival) (s : RingView M) : Type 0 where
   ItPassed : (g : Frame) → answer ≡ arrival.Frame g → s.books.held ≡ None → (whole : Whole view r (returned 0 f ∷ []) s) → own_frames whole.adds.answers ≡ [] → (message_of f ≡ msg.Sai → Each IsNameless 1 (devices_of r)) → Unheard r s → StartEnd view r f answer s
-  ItBegan : (g : Frame) → answer ≡ arrival.Frame g → (flight : Flight) → s.books.held ≡ Some flight → Began view f r s → StartEnd view r f answer s
-  ItFailed : answer ≡ arrival.Lost → NotBegun view f r s → StartEnd view r f answer s
+  ItBegan : (g : Frame) → answer ≡ arrival.Frame g → (flight : Flight) → s.books.held ≡ Some flight → BeginWhole view f r s → StartEnd view r f answer s
+  ItFailed : answer ≡ arrival.Lost → BeginBroken view f r s → StartEnd view r f answer s
 
 module _ {M : Type 0} (view : M → MediumView) (r s : RingView M) (held : Option Flight) (start : Start) (answer : Arrival) (round : Round view r held (sourced 0 (start_frame start)) answer s) (none : held ≡ None) (free : IsFree r) (host : IsUnderHost r.guest)
     (one : is_at_most_one (talkers (roles_of (devices_of r))) ≡ true) (calm : Each IsCalm 1 (devices_of r)) where
@@ -165,7 +165,7 @@ module _ {M : Type 0} (view : M → MediumView) (r s : RingView M) (held : Optio
       })
       unheard)
 
-  -- with its answer, where the drive is that party
+  -- with its answer, if the drive is that party
   did_so : (p : ℕ) (sent : Frame) → drive_party r ≤ p → DriveSawStart view f p sent r s → DriveDid view (λ g out. (g ≡ f) × (drive_party r ≡ p → out ≡ Source sent)) r s
   did_so p sent near saw =
       ⊎_elim
@@ -191,7 +191,7 @@ module _ {M : Type 0} (view : M → MediumView) (r s : RingView M) (held : Optio
       })
       (λ some.
       let far : p < drive_party r = omega (arith, some) in
-      let took = saw.behind far in
+      let took = saw.after far in
       record {
         adds = host_adds view (IsBrought r s sent) r s held f answer entries to carries round log new took;
         near = λ near. absurd (omega (arith, near, far));

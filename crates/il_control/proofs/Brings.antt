@@ -1,6 +1,5 @@
 -- The frames that came to the drive in whole exchanges.
-use Rattle.std.proofs.Common.{◌≡◌, ◌∙◌, ◌++◌, ◌&&◌, ℕ, Bool, true, false, not, List, [], ◌∷◌, Option, Some, None, map, length, refl, sym, ap, ap₂, subst}
-use Rattle.std.specs.Prelude.{if◌then◌else◌}
+use Rattle.std.proofs.Common.{◌≡◌, ◌∙◌, ◌++◌, ◌&&◌, ℕ, true, false, not, List, [], ◌∷◌, Option, Some, None, map, length, refl, sym, ap, ap₂, subst}
 use Rattle.std.specs.List.{list_all}
 use Rattle.std.proofs.lemmas.Bool.{and_parts}
 use Rattle.il_frames.specs.declared.frame.Class.{Class}
@@ -10,42 +9,29 @@ use Rattle.il_frames.specs.declared.entry.Entry.{Entry}
 use Rattle.il_frames.specs.declared.message.Message.{Message}
 use Rattle.il_frames.specs.declared.message.Message.TheVariants as msg
 use Rattle.il_frames.specs.Frames.{byte_of, class_of, is_data, same_class, same_but_service}
-use Rattle.il_frames.specs.Messages.{Row, One, Group, commands, message_at, message_in, message_of}
+use Rattle.il_frames.specs.Messages.{One, Group, commands, message_at, message_of}
 use Rattle.il_device.specs.Passing.{is_plain}
 use Rattle.il_ports.specs.Media.{MediumView}
 use Rattle.il_frames.specs.NamedFrames.{unl, lad, ddl, rfc}
 use Rattle.loop_model.specs.Exchanges.{Echo, Command, Send, echoed, commanded, numbered, entries_of, is_address, is_echo, is_host_echo, is_number, is_talk_address}
 use Rattle.il_ring.specs.Rings.{RingView, devices_of, drive_party}
+use Rattle.il_ring.proofs.MessageKinds.{AllRows, in_rows}
 use Rattle.il_control.specs.Brought.{AllCome, Brought, ComesAs, is_auto_address, is_from_here, numbered_frames}
 use Rattle.il_control.specs.Calls.{Made}
 use Rattle.il_control.proofs.Calls.{plain_exact}
 
 -- ---- commands come as they were sent
 
--- the messages of these rows ask nothing of a device
-abbrev PlainRows : List Row → Type 0
-PlainRows [] = Unit {0}
-PlainRows (One at m ∷ rows) = (is_plain m ≡ true) × PlainRows rows
-PlainRows (Group first count m ∷ rows) = ((n : ℕ) → is_plain (m n) ≡ true) × PlainRows rows
-
-plain_either : (test : Bool) (m n : Message) → is_plain m ≡ true → is_plain n ≡ true → is_plain (if test then m else n) ≡ true
-plain_either true m n first other = first
-plain_either false m n first other = other
-
-plain_in : (rows : List Row) (byte : ℕ) → PlainRows rows → is_plain (message_in rows byte msg.OtherCmd) ≡ true
-plain_in [] byte all = refl
-plain_in (One at m ∷ rows) byte all = plain_either _ m (message_in rows byte msg.OtherCmd) all.0 (plain_in rows byte all.1)
-plain_in (Group first count m ∷ rows) byte all = plain_either _ (m _) (message_in rows byte msg.OtherCmd) (all.0 _) (plain_in rows byte all.1)
-
-plain_commands : PlainRows commands
+-- no command asks anything of a device
+plain_commands : AllRows is_plain commands
 plain_commands =
-    let groups : PlainRows (Group 0xA0 32 msg.Ddl ∷ Group 0xC0 32 msg.Ddt ∷ []) = (λ n. refl, (λ n. refl, tt)) in
-    let singles : PlainRows (One 0x90 msg.Ifc ∷ One 0x92 msg.Ren ∷ One 0x93 msg.Nre ∷ One 0x9A msg.Aau ∷ One 0x9B msg.Lpd ∷ Group 0xA0 32 msg.Ddl ∷ Group 0xC0 32 msg.Ddt ∷ []) =
+    let groups : AllRows is_plain (Group 0xA0 32 msg.Ddl ∷ Group 0xC0 32 msg.Ddt ∷ []) = (λ n. refl, (λ n. refl, tt)) in
+    let singles : AllRows is_plain (One 0x90 msg.Ifc ∷ One 0x92 msg.Ren ∷ One 0x93 msg.Nre ∷ One 0x9A msg.Aau ∷ One 0x9B msg.Lpd ∷ Group 0xA0 32 msg.Ddl ∷ Group 0xC0 32 msg.Ddt ∷ []) =
     (refl, (refl, (refl, (refl, (refl, groups))))) in
     (refl, (refl, (refl, (refl, (refl, (refl, (refl, (refl, (refl, (refl, (refl, (λ n. refl, (refl, (λ n. refl, (refl, (λ n. refl, (λ n. refl, singles)))))))))))))))))
 
 plain_command : (k : Class) (byte : ℕ) → same_class k class.Cmd ≡ true → is_plain (message_at k byte) ≡ true
-plain_command class.Cmd byte is = plain_in commands byte plain_commands
+plain_command class.Cmd byte is = in_rows is_plain commands byte msg.OtherCmd plain_commands (λ n. refl)
 plain_command _ byte is = cc
 
 plain_no_address : (m : Message) → is_plain m ≡ true → is_auto_address m ≡ false
@@ -59,13 +45,13 @@ command_comes q f g is comes = let plain = plain_command (class_of f) (byte_of f
 -- ---- piece by piece
 
 -- these frames came first, and then those of the rest
-record Behind (k q : ℕ) (first : List Frame) (rest : List Entry) (came : List Frame) : Type 0 where
+record After (k q : ℕ) (first : List Frame) (rest : List Entry) (came : List Frame) : Type 0 where
   frames : List Frame
   are : came ≡ first ++ frames
   brought : Brought k q rest frames
 
--- of a command and the handshake behind it
-commanded_brings : (k q : ℕ) (f : Frame) (rest : List Entry) (came : List Frame) → same_class (class_of f) class.Cmd ≡ true → Brought k q (commanded 0 f ++ rest) came → Behind k q (f ∷ rfc ∷ []) rest came
+-- of a command and the handshake after it
+commanded_brings : (k q : ℕ) (f : Frame) (rest : List Entry) (came : List Frame) → same_class (class_of f) class.Cmd ≡ true → Brought k q (commanded 0 f ++ rest) came → After k q (f ∷ rfc ∷ []) rest came
 commanded_brings k q f rest [] is brought = absurd brought
 commanded_brings k q f rest (g ∷ []) is brought = absurd brought.1
 commanded_brings k q f rest (g ∷ h ∷ gs) is brought = record {
@@ -75,7 +61,7 @@ commanded_brings k q f rest (g ∷ h ∷ gs) is brought = record {
 }
 
 -- of the command of a number
-numbered_brings : (k q : ℕ) (number : Option ℕ) (rest : List Entry) (came : List Frame) → Brought k q (numbered 0 ddl number ++ rest) came → Behind k q (numbered_frames number) rest came
+numbered_brings : (k q : ℕ) (number : Option ℕ) (rest : List Entry) (came : List Frame) → Brought k q (numbered 0 ddl number ++ rest) came → After k q (numbered_frames number) rest came
 numbered_brings k q None rest came brought = record { frames = came; are = refl; brought = brought }
 numbered_brings k q (Some n) rest came brought = commanded_brings k q (ddl n) rest came refl brought
 

@@ -23,7 +23,7 @@ use Rattle.il_ring.proofs.RoundAdds.{DriveCame}
 use Rattle.il_control.specs.Calls.{idy}
 use Rattle.il_control.specs.Brought.{ComesAs, MayComeAs, BroughtIf, Brought, CutBrought, is_from_here}
 
--- ---- one list behind the other
+-- ---- one list after the other
 
 if_then : (b : Bool) (here : Frame → Type 0) (P R : List Frame → Type 0) (hs : List Frame) → ((gs : List Frame) → P gs → R (gs ++ hs)) → (gs : List Frame) → BroughtIf b here P gs → BroughtIf b here R (gs ++ hs)
 if_then false here P R hs on gs came = on gs came
@@ -39,7 +39,7 @@ pub brought_then : (k q : ℕ) (xs ys : List Entry) (gs hs : List Frame) → Bro
 brought_then k q [] ys gs hs first more = subst (λ gs. Brought k q ys (gs ++ hs)) (sym first) more
 brought_then k q (x ∷ xs) ys gs hs first more = if_then (brings_to k q x) (ComesAs q x.frame) (Brought k q xs) (Brought k q (xs ++ ys)) hs (λ gs first. brought_then k q xs ys gs hs first more) gs first
 
--- a cut behind whole entries
+-- a cut after whole entries
 pub cut_brought_first : (k q n : ℕ) (x : Entry) (xs ys : List Entry) (hs : List Frame) → ((gs : List Frame) → Brought k q xs gs → CutBrought k q (xs ++ ys) n (gs ++ hs)) → (gs : List Frame) → Brought k q (x ∷ xs) gs → CutBrought k q (x ∷ xs ++ ys) (suc n) (gs ++ hs)
 cut_brought_first k q n x xs ys hs on gs first = if_then (brings_to k q x) (ComesAs q x.frame) (Brought k q xs) (CutBrought k q (xs ++ ys) n) hs on gs first
 
@@ -61,7 +61,7 @@ same_place r m C before size holds = subst (λ k. C k (drive_party r)) size (sub
 pub may_come : (q : ℕ) (f g : Frame) → ComesAs q f g → MayComeAs q f g
 may_come q f g comes = record { data_frame = λ is. (comes.data_frame is).0; address = comes.address; poll = comes.poll; other = comes.other }
 
--- that came back, where no planned hop was met
+-- that came back, if no planned hop was reached
 pub brought_one : {M : Type 0} (P : Frame → Type 0) (r s : RingView M) (k q : ℕ) (f back : Frame) (gs : List Frame) → ((g : Frame) → P g → ComesAs q f g) → met_between r s ≡ [] → DriveCame P r s gs → Brought k q (entry 0 f (outcome.Back back) ∷ []) gs
 brought_one P r s k q f back gs comes none (inl gone) = absurd (gone.1 none)
 brought_one P r s k q f back gs comes none (inr came) = subst (λ gs. Brought k q (entry 0 f (outcome.Back back) ∷ []) gs) (sym came.2) (comes came.0 came.1, refl)

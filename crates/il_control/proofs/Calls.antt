@@ -1,4 +1,4 @@
--- Calls one behind the other, and single rounds as calls.
+-- Calls one after the other, and single rounds as calls.
 use Rattle.std.proofs.Common.{◌≡◌, ◌≤◌, ◌<◌, ◌+◌, ◌-◌, ◌++◌, ◌⊎◌, inl, inr, ⊎_elim, ℕ, zero, suc, Bool, true, false, List, [], ◌∷◌, Option, None, length, refl, sym, ap, ap₂, subst, ◌∙◌, arith, length-append}
 use Rattle.std.specs.Prelude.{MatchBool}
 use Rattle.std.specs.List.{list_all}
@@ -57,17 +57,17 @@ cut_front [] ys n b legal = cc
 cut_front (x ∷ xs) ys zero b legal = (refl, legal)
 cut_front (x ∷ xs) ys (suc n) b legal = let more = cut_front xs ys n b legal in (ap (λ es. x ∷ es) more.0, more.1)
 
--- and so is one of the entries behind them
-pub record CutBehind (xs ys : List Entry) (n : ℕ) (b : Break) : Type 0 where
+-- and so is one of the entries after them
+pub record CutAfter (xs ys : List Entry) (n : ℕ) (b : Break) : Type 0 where
   pub standing : ℕ
   pub entries : cut_at (xs ++ ys) standing b ≡ xs ++ cut_at ys n b
   pub legal : can_cut 0 (xs ++ ys) standing b ≡ true
   pub brings : (k q : ℕ) (gs hs : List Frame) → Brought k q xs gs → CutBrought k q ys n hs → CutBrought k q (xs ++ ys) standing (gs ++ hs)
 
-pub cut_behind : (xs ys : List Entry) (n : ℕ) (b : Break) → can_cut 0 ys n b ≡ true → CutBehind xs ys n b
-cut_behind [] ys n b legal = record { standing = n; entries = refl; legal = legal; brings = λ k q gs hs first cut. subst (λ gs. CutBrought k q ys n (gs ++ hs)) (sym first) cut }
-cut_behind (x ∷ xs) ys n b legal =
-    let more = cut_behind xs ys n b legal in
+pub cut_after : (xs ys : List Entry) (n : ℕ) (b : Break) → can_cut 0 ys n b ≡ true → CutAfter xs ys n b
+cut_after [] ys n b legal = record { standing = n; entries = refl; legal = legal; brings = λ k q gs hs first cut. subst (λ gs. CutBrought k q ys n (gs ++ hs)) (sym first) cut }
+cut_after (x ∷ xs) ys n b legal =
+    let more = cut_after xs ys n b legal in
     record {
       standing = suc more.standing;
       entries = ap (λ es. x ∷ es) more.entries;
@@ -75,11 +75,11 @@ cut_behind (x ∷ xs) ys n b legal =
       brings = λ k q gs hs first cut. cut_brought_first k q more.standing x xs ys hs (λ gs first. more.brings k q gs hs first cut) gs first;
     }
 
--- behind all of the first
-cut_behind_standing : (xs ys : List Entry) (n : ℕ) (b : Break) (legal : can_cut 0 ys n b ≡ true) → (cut_behind xs ys n b legal).standing ≡ length xs + n
-unfolding cut_behind
-cut_behind_standing [] ys n b legal = omega arith
-cut_behind_standing (x ∷ xs) ys n b legal = let up : suc (length xs + n) ≡ length (x ∷ xs) + n = omega arith in ap suc (cut_behind_standing xs ys n b legal) ∙ up
+-- after all of the first
+cut_after_standing : (xs ys : List Entry) (n : ℕ) (b : Break) (legal : can_cut 0 ys n b ≡ true) → (cut_after xs ys n b legal).standing ≡ length xs + n
+unfolding cut_after
+cut_after_standing [] ys n b legal = omega arith
+cut_after_standing (x ∷ xs) ys n b legal = let up : suc (length xs + n) ≡ length (x ∷ xs) + n = omega arith in ap suc (cut_after_standing xs ys n b legal) ∙ up
 
 -- a cut leaves out an entry
 pub cut_within : (es : List Entry) (n : ℕ) (b : Break) → can_cut 0 es n b ≡ true → n < length es
@@ -104,7 +104,7 @@ met_parts view r m s a b c d xs ys ring ring_m first more =
 hears_same : (d e : DeviceState) → e ≡ d → HearsNothing d e
 hears_same d e same = subst (λ e. HearsNothing d e) (sym same) (record { heard = refl; heard_count = refl; room = refl; accessory = refl })
 
--- the first so many heard nothing, and the others are as they were
+-- the first n heard nothing, and the others are as they were
 heard_nothing : (R : DeviceState → DeviceState → Type 0) → ((d e : DeviceState) → R d e → HearsNothing d e) → (j : ℕ) (ds es : List DeviceState) → First R j ds es → First HearsNothing (length ds) ds es
 heard_nothing R hears j [] [] took = tt
 heard_nothing R hears zero (d ∷ ds) (e ∷ es) took = (hears_same d e took.0, heard_nothing R hears zero ds es took.1)
@@ -131,7 +131,7 @@ unheard_then (c ∷ cs) (d ∷ ds) [] first more = absurd more
 no_data_parts : (xs ys : List Entry) → list_all has_no_data (xs ++ ys) ≡ true → (list_all has_no_data xs ≡ true) × (list_all has_no_data ys ≡ true)
 no_data_parts xs ys none = and_parts (list_all has_no_data xs) (list_all has_no_data ys) (sym (list_all-append has_no_data xs ys) ∙ none)
 
--- ---- one call behind the other
+-- ---- one call after the other
 
 pub whole_then : {M : Type 0} (view : M → MediumView) (r m s : RingView M) (xs ys : List Entry) → IsRing r → Whole view r xs m → Whole view m ys s → Whole view r (xs ++ ys) s
 whole_then view r m s xs ys ring first more = record {
@@ -144,9 +144,9 @@ whole_then view r m s xs ys ring first more = record {
       let k = length (devices_of r) in
       let q = drive_party r in
       let parts = from_here_parts q xs ys from in
-      let behind : list_all (is_from_here q) ys ≡ true → Brought k q ys more.adds.came =
+      let after : list_all (is_from_here q) ys ≡ true → Brought k q ys more.adds.came =
       same_place r m (λ k q. list_all (is_from_here q) ys ≡ true → Brought k q ys more.adds.came) first.adds.before first.adds.size more.brought in
-      subst (Brought k q (xs ++ ys)) (sym (adds_more-came view r m s None None None xs ys first.adds more.adds)) (brought_then k q xs ys first.adds.came more.adds.came (first.brought parts.0) (behind parts.1));
+      subst (Brought k q (xs ++ ys)) (sym (adds_more-came view r m s None None None xs ys first.adds more.adds)) (brought_then k q xs ys first.adds.came more.adds.came (first.brought parts.0) (after parts.1));
 }
 
 -- the frames that came are those of both
@@ -163,24 +163,24 @@ abbrev AddsCut : {M : Type 0} → (M → MediumView) → RingView M → List Ent
 AddsCut view r entries standing to s came cut =
     (adds : Adds view r None cut to s) × (list_all (is_from_here (drive_party r)) entries ≡ true → CutBrought (length (devices_of r)) (drive_party r) entries standing adds.came) × (adds.came ≡ came)
 
-cut_added_behind : {M : Type 0} (view : M → MediumView) (r m s : RingView M) (xs ys : List Entry) (first : Whole view r xs m) (more : Broke view m ys s) (cut : CutBehind xs ys more.standing more.break)
+cut_added_after : {M : Type 0} (view : M → MediumView) (r m s : RingView M) (xs ys : List Entry) (first : Whole view r xs m) (more : Broke view m ys s) (cut : CutAfter xs ys more.standing more.break)
     → AddsCut view r (xs ++ ys) cut.standing more.held_at_end s (first.adds.came ++ more.adds.came) (cut_at (xs ++ ys) cut.standing more.break)
-cut_added_behind view r m s xs ys first more cut =
+cut_added_after view r m s xs ys first more cut =
     let adds = adds_more view r m s None None more.held_at_end xs (cut_at ys more.standing more.break) first.adds more.adds in
     let k = length (devices_of r) in
     let q = drive_party r in
     let all = adds_more-came view r m s None None more.held_at_end xs (cut_at ys more.standing more.break) first.adds more.adds in
-    let behind : list_all (is_from_here q) ys ≡ true → CutBrought k q ys more.standing more.adds.came =
+    let after : list_all (is_from_here q) ys ≡ true → CutBrought k q ys more.standing more.adds.came =
     same_place r m (λ k q. list_all (is_from_here q) ys ≡ true → CutBrought k q ys more.standing more.adds.came) first.adds.before first.adds.size more.brought in
     let came : list_all (is_from_here q) (xs ++ ys) ≡ true → CutBrought k q (xs ++ ys) cut.standing adds.came = λ from.
     let parts = from_here_parts q xs ys from in
-    subst (CutBrought k q (xs ++ ys) cut.standing) (sym all) (cut.brings k q first.adds.came more.adds.came (first.brought parts.0) (behind parts.1)) in
+    subst (CutBrought k q (xs ++ ys) cut.standing) (sym all) (cut.brings k q first.adds.came more.adds.came (first.brought parts.0) (after parts.1)) in
     subst (AddsCut view r (xs ++ ys) cut.standing more.held_at_end s (first.adds.came ++ more.adds.came)) (sym cut.entries) (adds, came, all)
 
-pub broke_behind : {M : Type 0} (view : M → MediumView) (r m s : RingView M) (xs ys : List Entry) → IsRing r → Whole view r xs m → Broke view m ys s → Broke view r (xs ++ ys) s
-broke_behind view r m s xs ys ring first more =
-    let cut = cut_behind xs ys more.standing more.break more.legal in
-    let added = cut_added_behind view r m s xs ys first more cut in
+pub broke_after : {M : Type 0} (view : M → MediumView) (r m s : RingView M) (xs ys : List Entry) → IsRing r → Whole view r xs m → Broke view m ys s → Broke view r (xs ++ ys) s
+broke_after view r m s xs ys ring first more =
+    let cut = cut_after xs ys more.standing more.break more.legal in
+    let added = cut_added_after view r m s xs ys first more cut in
     record {
       standing = cut.standing;
       break = more.break;
@@ -195,26 +195,26 @@ broke_behind view r m s xs ys ring first more =
       brought = added.1;
     }
 
-pub broke_behind_came : {M : Type 0} (view : M → MediumView) (r m s : RingView M) (xs ys : List Entry) (ring : IsRing r) (first : Whole view r xs m) (more : Broke view m ys s) → (broke_behind view r m s xs ys ring first more).adds.came ≡ first.adds.came ++ more.adds.came
-unfolding broke_behind
-broke_behind_came view r m s xs ys ring first more = (cut_added_behind view r m s xs ys first more (cut_behind xs ys more.standing more.break more.legal)).2
+pub broke_after_came : {M : Type 0} (view : M → MediumView) (r m s : RingView M) (xs ys : List Entry) (ring : IsRing r) (first : Whole view r xs m) (more : Broke view m ys s) → (broke_after view r m s xs ys ring first more).adds.came ≡ first.adds.came ++ more.adds.came
+unfolding broke_after
+broke_after_came view r m s xs ys ring first more = (cut_added_after view r m s xs ys first more (cut_after xs ys more.standing more.break more.legal)).2
 
--- so many stand
-pub broke_behind_standing : {M : Type 0} (view : M → MediumView) (r m s : RingView M) (xs ys : List Entry) (ring : IsRing r) (first : Whole view r xs m) (more : Broke view m ys s) → (broke_behind view r m s xs ys ring first more).standing ≡ length xs + more.standing
-unfolding broke_behind
-broke_behind_standing view r m s xs ys ring first more = cut_behind_standing xs ys more.standing more.break more.legal
+-- as many are there
+pub broke_after_standing : {M : Type 0} (view : M → MediumView) (r m s : RingView M) (xs ys : List Entry) (ring : IsRing r) (first : Whole view r xs m) (more : Broke view m ys s) → (broke_after view r m s xs ys ring first more).standing ≡ length xs + more.standing
+unfolding broke_after
+broke_after_standing view r m s xs ys ring first more = cut_after_standing xs ys more.standing more.break more.legal
 
 -- and the break is the same
-pub broke_behind_break : {M : Type 0} (view : M → MediumView) (r m s : RingView M) (xs ys : List Entry) (ring : IsRing r) (first : Whole view r xs m) (more : Broke view m ys s) → (broke_behind view r m s xs ys ring first more).break ≡ more.break
-unfolding broke_behind
-broke_behind_break view r m s xs ys ring first more = refl
+pub broke_after_break : {M : Type 0} (view : M → MediumView) (r m s : RingView M) (xs ys : List Entry) (ring : IsRing r) (first : Whole view r xs m) (more : Broke view m ys s) → (broke_after view r m s xs ys ring first more).break ≡ more.break
+unfolding broke_after
+broke_after_break view r m s xs ys ring first more = refl
 
--- whether a frame was held is read off both, where it is read off the second
-pub broke_behind_ended : {M : Type 0} (view : M → MediumView) (r m s : RingView M) (xs ys : List Entry) (ring : IsRing r) (first : Whole view r xs m) (more : Broke view m ys s) → more.held_at_end ≡ held_after (sourcing None xs) (cut_at ys more.standing more.break)
-    → (broke_behind view r m s xs ys ring first more).held_at_end ≡ held_after None (cut_at (xs ++ ys) (broke_behind view r m s xs ys ring first more).standing (broke_behind view r m s xs ys ring first more).break)
-unfolding broke_behind
-broke_behind_ended view r m s xs ys ring first more ended =
-    ended ∙ sym (cut_held None xs ys more.standing more.break more.legal) ∙ ap (held_after None) (sym (cut_behind xs ys more.standing more.break more.legal).entries)
+-- whether a frame was held is read off both, if it is read off the second
+pub broke_after_ended : {M : Type 0} (view : M → MediumView) (r m s : RingView M) (xs ys : List Entry) (ring : IsRing r) (first : Whole view r xs m) (more : Broke view m ys s) → more.held_at_end ≡ held_after (sourcing None xs) (cut_at ys more.standing more.break)
+    → (broke_after view r m s xs ys ring first more).held_at_end ≡ held_after None (cut_at (xs ++ ys) (broke_after view r m s xs ys ring first more).standing (broke_after view r m s xs ys ring first more).break)
+unfolding broke_after
+broke_after_ended view r m s xs ys ring first more ended =
+    ended ∙ sym (cut_held None xs ys more.standing more.break more.legal) ∙ ap (held_after None) (sym (cut_after xs ys more.standing more.break more.legal).entries)
 
 cut_added_before : {M : Type 0} (view : M → MediumView) (r s : RingView M) (xs ys : List Entry) (broke : Broke view r xs s) → AddsCut view r (xs ++ ys) broke.standing broke.held_at_end s broke.adds.came (cut_at (xs ++ ys) broke.standing broke.break)
 cut_added_before view r s xs ys broke =
@@ -341,22 +341,22 @@ plain_call view r s held f answer round none free plain =
     (λ lost. subst (λ answer. Done view r (returned 0 f ∷ []) (arrives answer) s) (sym lost.0) (lost.1 (outcome.Back f)))
     (pass_call view (Is f) Any (Obeys (message_of f)) (plain_passes f plain) (λ d e obeyed. obeyed.nothing) r s held f answer round none free (any_each 1 (devices_of r)) refl (Exactly (plain_exact (message_of f) plain) refl) (λ g same. plain_comes (drive_party r) f g plain same))
 
--- told by an answer
+-- as an answer shows
 pub done_as : {M : Type 0} (view : M → MediumView) (r s : RingView M) (entries : List Entry) (whole told : Bool) → told ≡ whole → Done view r entries whole s → Done view r entries told s
 done_as view r s entries whole told same done = subst (λ whole. Done view r entries whole s) (sym same) done
 
--- one call behind another that was done whole
+-- one call after another that was done whole
 pub done_then : {M : Type 0} (view : M → MediumView) (r m s : RingView M) (xs ys : List Entry) (whole : Bool) → IsRing r → Whole view r xs m → Done view m ys whole s → Done view r (xs ++ ys) whole s
 done_then view r m s xs ys true ring first more = whole_then view r m s xs ys ring first more
-done_then view r m s xs ys false ring first more = broke_behind view r m s xs ys ring first more
+done_then view r m s xs ys false ring first more = broke_after view r m s xs ys ring first more
 
 -- the room that a call leaves
-pub room_behind : {M : Type 0} (view : M → MediumView) (r m : RingView M) (xs : List Entry) (more : ℕ) → Whole view r xs m → length xs + more ≤ spare_of r → more ≤ spare_of m
-room_behind view r m xs more whole room =
+pub room_after : {M : Type 0} (view : M → MediumView) (r m : RingView M) (xs : List Entry) (more : ℕ) → Whole view r xs m → length xs + more ≤ spare_of r → more ≤ spare_of m
+room_after view r m xs more whole room =
     let long : length m.books.log ≡ length r.books.log + length xs = ap length whole.adds.log ∙ length-append r.books.log xs in
     subst (λ n. more ≤ n) (ap₂ (λ a b. a - b) (sym whole.adds.room) (sym long)) (omega (arith, room))
 
--- a command and the handshake behind it
+-- a command and the handshake after it
 pub command_done : {M : Type 0} (view : M → MediumView) (r m s : RingView M) (f g : Frame) (whole : Bool) → IsRing r → g ≡ rfc → Whole view r (returned 0 f ∷ []) m → Done view m (returned 0 g ∷ []) whole s → Done view r (commanded 0 f) whole s
 command_done view r m s f g whole ring is_rfc first more =
     done_then view r m s (returned 0 f ∷ []) (returned 0 rfc ∷ []) whole ring first (subst (λ g. Done view m (returned 0 g ∷ []) whole s) is_rfc more)
@@ -383,7 +383,7 @@ whole_nothing view r free = record {
   brought = λ from. adds_nothing-came view r None;
 }
 
--- a command whole, and what was done behind it
+-- a command whole, and what was done after it
 pub told_then : {M : Type 0} (view : M → MediumView) (r m s : RingView M) (f g : Frame) (rest : List Entry) (whole : Bool) → IsRing r → f ≡ g → Whole view r (commanded 0 f) m → Done view m rest whole s → Done view r (commanded 0 g ++ rest) whole s
 told_then view r m s f g rest whole ring is first more = done_then view r m s (commanded 0 g) rest whole ring (subst (λ f. Whole view r (commanded 0 f) m) is first) more
 

@@ -34,10 +34,10 @@ no_lost_nrd e other = by (e.source == 0) (is_frame e.frame nrd) (is_lost e.outco
     by false false c is = refl
 
 -- entries without NRD leave none held
-pub none_held_behind : (before : Option ℕ) (es : List Entry) → list_all is_no_nrd es ≡ true → held_at_end before es ≡ None
-none_held_behind before [] quiet = refl
-none_held_behind before (e ∷ []) quiet = rw (no_lost_nrd e (and_parts (is_no_nrd e) true quiet).0) refl
-none_held_behind before (e ∷ next ∷ es) quiet = none_held_behind (sourcing_after before e) (next ∷ es) (and_parts (is_no_nrd e) (list_all is_no_nrd (next ∷ es)) quiet).1
+pub none_held_after : (before : Option ℕ) (es : List Entry) → list_all is_no_nrd es ≡ true → held_at_end before es ≡ None
+none_held_after before [] quiet = refl
+none_held_after before (e ∷ []) quiet = rw (no_lost_nrd e (and_parts (is_no_nrd e) true quiet).0) refl
+none_held_after before (e ∷ next ∷ es) quiet = none_held_after (sourcing_after before e) (next ∷ es) (and_parts (is_no_nrd e) (list_all is_no_nrd (next ∷ es)) quiet).1
 
 -- a break brings none
 cut_quiet : (es : List Entry) (n : ℕ) (b : Break) → list_all is_no_nrd es ≡ true → list_all is_no_nrd (cut_at es n b) ≡ true
@@ -54,7 +54,7 @@ cut_quiet (e ∷ es) zero b quiet = break_quiet b
 cut_quiet (e ∷ es) (suc n) b quiet = let parts = and_parts (is_no_nrd e) (list_all is_no_nrd es) quiet in and_from (is_no_nrd e) (list_all is_no_nrd (cut_at es n b)) parts.0 (cut_quiet es n b parts.1)
 
 pub cut_holds_none : (before : Option ℕ) (es : List Entry) (n : ℕ) (b : Break) → list_all is_no_nrd es ≡ true → held_at_end before (cut_at es n b) ≡ None
-cut_holds_none before es n b quiet = none_held_behind before (cut_at es n b) (cut_quiet es n b quiet)
+cut_holds_none before es n b quiet = none_held_after before (cut_at es n b) (cut_quiet es n b quiet)
 
 pub quiet_parts : (xs ys : List Entry) → list_all is_no_nrd (xs ++ ys) ≡ true → (list_all is_no_nrd xs ≡ true) × (list_all is_no_nrd ys ≡ true)
 quiet_parts xs ys quiet = and_parts (list_all is_no_nrd xs) (list_all is_no_nrd ys) (sym (list_all-append is_no_nrd xs ys) ∙ quiet)
@@ -78,20 +78,20 @@ with_break xs due b are is = list_all-append is_of_device xs (break_entries due 
     broken (HostAltered f) = and_from (is_of_device due) true is refl
     broken (TalkerAltered f end) = and_from (is_of_device due) (is_of_device due && true) is (and_from (is_of_device due) true is refl)
 
--- a break of a device's frame, behind others of devices, and behind an NRD that came back
+-- a break of a device's frame, after others of devices, and after an NRD that came back
 pub severed_holds_none : (before : Option ℕ) (xs : List Entry) (due : Entry) (b : Break) → list_all is_of_device xs ≡ true → is_of_device due ≡ true → None ≡ held_at_end before (xs ++ break_entries due b)
 severed_holds_none before xs due b are is = sym (devices_hold_none before (xs ++ break_entries due b) (with_break xs due b are is))
 
-behind_nrd : (before : Option ℕ) (es : List Entry) → list_all is_of_device es ≡ true → held_at_end before (returned 0 nrd ∷ es) ≡ None
-behind_nrd before [] are = refl
-behind_nrd before (e ∷ es) are = devices_hold_none before (e ∷ es) are
+after_nrd : (before : Option ℕ) (es : List Entry) → list_all is_of_device es ≡ true → held_at_end before (returned 0 nrd ∷ es) ≡ None
+after_nrd before [] are = refl
+after_nrd before (e ∷ es) are = devices_hold_none before (e ∷ es) are
 
 pub stopped_holds_none : (before : Option ℕ) (xs : List Entry) (due : Entry) (b : Break) → list_all is_of_device xs ≡ true → is_of_device due ≡ true → None ≡ held_at_end before (returned 0 nrd ∷ xs ++ break_entries due b)
-stopped_holds_none before xs due b are is = sym (behind_nrd before (xs ++ break_entries due b) (with_break xs due b are is))
+stopped_holds_none before xs due b are is = sym (after_nrd before (xs ++ break_entries due b) (with_break xs due b are is))
 
--- ---- behind other entries
+-- ---- after other entries
 
--- a cut has an entry, and so what stands before it tells only who sourced data
+-- a cut has an entry, and so what is before it shows only who sourced data
 pub cut_held : (before : Option ℕ) (xs ys : List Entry) (n : ℕ) (b : Break) → can_cut 0 ys n b ≡ true → held_at_end before (xs ++ cut_at ys n b) ≡ held_at_end (sourcing before xs) (cut_at ys n b)
 cut_held before xs [] n b legal = cc
 cut_held before xs (y ∷ ys) zero (FrameLost q) legal = held_at_end-append before xs (entry y.source y.frame (outcome.Lost q)) []

@@ -1,4 +1,4 @@
--- The calls of a lend, one behind the other.
+-- The calls of a lend, one after the other.
 use Rattle.std.proofs.lemmas.Bool.{and_parts, eqb-true, ltb-true}
 use Rattle.std.proofs.Common.{Bool, List, None, [], ap, arith, false, inl, inr, is_some, length, length-append, nat_lt, refl, subst, suc, sym, true, zero, ℕ, ⊎_elim, ◌&&◌, ◌*◌, ◌++◌, ◌+◌, ◌<◌, ◌==◌, ◌||◌, ◌∙◌, ◌∷◌, ◌≡◌, ◌≢◌, ◌≤◌, ◌⊎◌}
 use Rattle.std.proofs.lemmas.List.{append_cancel_left}
@@ -15,22 +15,22 @@ use Rattle.il_ring.specs.declared.plan.Arrival.TheVariants as arrival
 use Rattle.il_ring.specs.Flights.{sourced}
 use Rattle.il_ring.specs.Guests.{IsUnderHost}
 use Rattle.il_ring.specs.HandedOver.{HandLost, HandedOver}
-use Rattle.il_ring.specs.Lending.{HostKeeps, IsLed, LedRound, StandsNow, about_to_send, entry_where, hands_over, taken_back}
+use Rattle.il_ring.specs.Lending.{HostKeeps, IsControlled, ControlledRound, StandsNow, about_to_send, entry_of_kept, hands_over, taken_back}
 use Rattle.il_ring.specs.Lends.{NoTakerCut, came_back, handed_entries}
 use Rattle.il_ring.specs.Rings.{IsRing, Round, RingView, devices_of, spare_of}
 use Rattle.il_ring.proofs.HandLosses.{hand_sent}
-use Rattle.il_ring.proofs.LedRounds.{not_led}
+use Rattle.il_ring.proofs.ControlledRounds.{not_controlled}
 use Rattle.il_control.specs.declared.lending.Handed.TheVariants as handed
 use Rattle.il_control.specs.Calls.{Broke, IsFree, IsIdle, Whole, arrives}
 use Rattle.il_control.specs.Lent.{Hands, HandsOver, IsLentNow, LendBroken, LendMade, LentSo, PolledUntil, TctLost, controller_at}
 use Rattle.il_control.specs.Receives.{Asked}
-use Rattle.il_control.proofs.Calls.{Done, broke_before, broke_before_break, broke_before_standing, broke_behind, broke_behind_break, broke_behind_standing, cut_within, plain_call, room_behind, whole_then}
+use Rattle.il_control.proofs.Calls.{Done, broke_before, broke_before_break, broke_before_standing, broke_after, broke_after_break, broke_after_standing, cut_within, plain_call, room_after, whole_then}
 use Rattle.il_control.proofs.LendEnds.{as_taken, cut_broken, lent_made, lent_not, where_short}
 use Rattle.il_control.proofs.LendFronts.{refused_broken, refused_made}
 use Rattle.il_control.proofs.LendHands.{hands_where}
 use Rattle.il_control.proofs.LentPasses.{lent_some}
 use Rattle.il_control.proofs.LentTaken.{lent_or_broke}
-use Rattle.il_control.proofs.TakingControl.{about_led}
+use Rattle.il_control.proofs.TakingControl.{about_controlled}
 
 -- ---- TCT
 
@@ -42,8 +42,8 @@ abbrev lost_party : List Entry → ℕ
 lost_party [] = 0
 lost_party (e ∷ es) = lost_before e.outcome
 
-module _ {M : Type 0} (view : M → MediumView) (r s : RingView M) (f : Frame) (answer : Arrival) (is : f ≡ tct) (free : IsFree r) (host : IsUnderHost r.guest) (round : HostKeeps r f → Round view r r.books.held (sourced 0 f) answer s) (led_round : IsUnderHost r.guest → hands_over r f ≡ true → LedRound view r (sourced 0 f) answer s)
-    (lent : IsRing r → IsUnderHost r.guest → hands_over r f ≡ true → (IsRing s × IsUnderHost s.guest) ⊎ (IsLed s × StandsNow answer s.books.lent)) where
+module _ {M : Type 0} (view : M → MediumView) (r s : RingView M) (f : Frame) (answer : Arrival) (is : f ≡ tct) (free : IsFree r) (host : IsUnderHost r.guest) (round : HostKeeps r f → Round view r r.books.held (sourced 0 f) answer s) (controlled_round : IsUnderHost r.guest → hands_over r f ≡ true → ControlledRound view r (sourced 0 f) answer s)
+    (lent : IsRing r → IsUnderHost r.guest → hands_over r f ≡ true → (IsRing s × IsUnderHost s.guest) ⊎ (IsControlled s × StandsNow answer s.books.lent)) where
   -- it went round as any frame of the host
   record WentRound : Type 0 where
     done : Done view r (returned 0 tct ∷ []) (arrives answer) s
@@ -55,7 +55,7 @@ module _ {M : Type 0} (view : M → MediumView) (r s : RingView M) (f : Frame) (
     under = subst IsUnderHost (sym round.guest) host;
   }
 
-  -- and where a second controller was to take it, it was lost before that one
+  -- and if a second controller was to take it, it was lost before that one
   record WentPast : Type 0 where
     went : WentRound
     none : (g : Frame) → answer ≡ arrival.Frame g → hands_over r tct ≡ false
@@ -73,7 +73,7 @@ module _ {M : Type 0} (view : M → MediumView) (r s : RingView M) (f : Frame) (
       })
       by true hands =
           let here = ap (hands_over r) is ∙ hands in
-          let at : LedRound view r (sourced 0 tct) answer s = subst (λ f. LedRound view r (sourced 0 f) answer s) is (led_round host here) in
+          let at : ControlledRound view r (sourced 0 tct) answer s = subst (λ f. ControlledRound view r (sourced 0 f) answer s) is (controlled_round host here) in
           ⊎_elim
           (λ lost. inl (record { went = went_by lost.1; none = λ g came. let clash = sym came ∙ lost.0.answer_is in cc; lost = λ hands. lost.0 }))
           (λ (over : HandedOver r answer s).
@@ -82,7 +82,7 @@ module _ {M : Type 0} (view : M → MediumView) (r s : RingView M) (f : Frame) (
             round = at;
             hands = hands;
             over = over;
-            led = ⊎_elim (λ ring. absurd (leads_on over ring.1)) (λ led. led.0) (lent free.ring host here);
+            controlled = ⊎_elim (λ ring. absurd (leads_on over ring.1)) (λ controlled. controlled.0) (lent free.ring host here);
           }))
           (hand_sent view r s answer at free.ring host hands)
         where
@@ -90,10 +90,10 @@ module _ {M : Type 0} (view : M → MediumView) (r s : RingView M) (f : Frame) (
           leads_on over under = let under_then = subst IsUnderHost over.mind_then under in let clash = sym over.control ∙ under_then in cc
 
   stands : Hands view r s → StandsNow answer s.books.lent
-  stands hands = ⊎_elim (λ ring. absurd (no_ring ring.0 ring.1)) (λ led. led.1) (lent free.ring host (ap (hands_over r) is ∙ hands.hands))
+  stands hands = ⊎_elim (λ ring. absurd (no_ring ring.0 ring.1)) (λ controlled. controlled.1) (lent free.ring host (ap (hands_over r) is ∙ hands.hands))
     where
       no_ring : IsRing s → IsUnderHost s.guest → ⊥
-      no_ring ring under = let clash = sym (not_led s.guest under) ∙ hands.led.leads in cc
+      no_ring ring under = let clash = sym (not_controlled s.guest under) ∙ hands.controlled.leads in cc
 
   -- so it did not come as far as the host
   not_home : (broke : Broke view r (returned 0 tct ∷ []) s) → HandLost r answer s → broke.break ≢ FrameLost 0
@@ -164,14 +164,14 @@ module _ {M : Type 0} (view : M → MediumView) (a limit : ℕ) (q : RingView M)
     not_handed s lost =
         let broke = lost.broke in
         let more = broke_before view r s (returned 0 tct ∷ []) (commanded 0 unt) broke in
-        let all = broke_behind view q r s (receive_front 0 a None) (returned 0 tct ∷ commanded 0 unt) front_ring asked.whole more in
+        let all = broke_after view q r s (receive_front 0 a None) (returned 0 tct ∷ commanded 0 unt) front_ring asked.whole more in
         refused_broken view a limit q s idle low all
         (λ p is back.
         let few = cut_within (returned 0 tct ∷ []) broke.standing broke.break broke.legal in
         let same = broke_before_standing view r s (returned 0 tct ∷ []) (commanded 0 unt) broke in
-        let sum = broke_behind_standing view q r s (receive_front 0 a None) (returned 0 tct ∷ commanded 0 unt) front_ring asked.whole more in
+        let sum = broke_after_standing view q r s (receive_front 0 a None) (returned 0 tct ∷ commanded 0 unt) front_ring asked.whole more in
         let last : broke.break ≡ FrameLost p =
-        sym (broke_before_break view r s (returned 0 tct ∷ []) (commanded 0 unt) broke) ∙ sym (broke_behind_break view q r s (receive_front 0 a None) (returned 0 tct ∷ commanded 0 unt) front_ring asked.whole more) ∙ is in
+        sym (broke_before_break view r s (returned 0 tct ∷ []) (commanded 0 unt) broke) ∙ sym (broke_after_break view q r s (receive_front 0 a None) (returned 0 tct ∷ commanded 0 unt) front_ring asked.whole more) ∙ is in
         nobody_there (λ there. early all.standing p (omega (arith, few, same, sum)) (λ four none. lost.before (hands_where view q r a idle some low asked ∙ there) (last ∙ ap (λ p. FrameLost p) none)) back))
 
     module _ (m : RingView M) (nobody : HandsOver view r handed.NotTaken m) where
@@ -182,7 +182,7 @@ module _ {M : Type 0} (view : M → MediumView) (a limit : ℕ) (q : RingView M)
       untalk_free = record { ring = nobody.0.ring; held = nobody.0.held }
 
       pub untalk_room : 4 * limit + 48 ≤ spare_of q → 33 ≤ spare_of m
-      untalk_room room = room_behind view q m (receive_front 0 a None ++ returned 0 tct ∷ []) 33 front (omega (arith, room))
+      untalk_room room = room_after view q m (receive_front 0 a None ++ returned 0 tct ∷ []) 33 front (omega (arith, room))
 
       pub nobody_made : (f : Frame) → f ≡ unt → (s : RingView M) → Whole view m (commanded 0 f) s → IsUnderHost s.guest → LendMade a limit false q s
       nobody_made f is s whole host =
@@ -191,14 +191,14 @@ module _ {M : Type 0} (view : M → MediumView) (a limit : ℕ) (q : RingView M)
 
       pub nobody_broke : (f : Frame) → f ≡ unt → (s : RingView M) → Broke view m (commanded 0 f) s → LendBroken a limit q s
       nobody_broke f is s broke =
-          refused_broken view a limit q s idle low (broke_behind view q m s (receive_front 0 a None ++ returned 0 tct ∷ []) (commanded 0 unt) front_ring front (subst (λ f. Broke view m (commanded 0 f) s) is broke))
+          refused_broken view a limit q s idle low (broke_after view q m s (receive_front 0 a None ++ returned 0 tct ∷ []) (commanded 0 unt) front_ring front (subst (λ f. Broke view m (commanded 0 f) s) is broke))
           (λ p is back. sym (hands_where view q r a idle some low asked) ∙ nobody.1)
 
     -- ---- a second controller took it
 
     pub hands_lent : (s : RingView M) → 1 ≤ limit → HandsOver view r handed.Taken s → LentSo view a q s 1
     hands_lent s some_limit taken = ⊎_elim (λ so. so) (λ off. let none = off.off.lent_is in let clash = sym taken.1 ∙ ap is_some none in cc)
-        (lent_or_broke view q r s a idle some low asked taken.0.answer taken.0.round taken.0.hands taken.0.over taken.0.led limit some_limit)
+        (lent_or_broke view q r s a idle some low asked taken.0.answer taken.0.round taken.0.hands taken.0.over taken.0.controlled limit some_limit)
 
     pub hands_broke : (s : RingView M) → 1 ≤ limit → HandsOver view r handed.Broken s → LendBroken a limit q s
     hands_broke s some_limit broken = ⊎_elim
@@ -207,7 +207,7 @@ module _ {M : Type 0} (view : M → MediumView) (a limit : ℕ) (q : RingView M)
         ⊎_elim
         (λ so. let lent = lent_some view a q s s 1 arrival.Lost so in let clash = sym (ap is_some gone.1) ∙ lent in cc)
         (λ off. cut_broken view a limit q s idle low off off.at (sym gone.0.hands ∙ hands_where view q r a idle some low asked))
-        (lent_or_broke view q r s a idle some low asked gone.0.answer gone.0.round gone.0.hands gone.0.over gone.0.led limit some_limit))
+        (lent_or_broke view q r s a idle some low asked gone.0.answer gone.0.round gone.0.hands gone.0.over gone.0.controlled limit some_limit))
         broken
 
     -- the room that is left
@@ -243,7 +243,7 @@ module _ {M : Type 0} (view : M → MediumView) (a limit : ℕ) (q : RingView M)
         so = polled a q begun
 
         pub back_free : IsFree (about_to_send m)
-        back_free = about_led m so.polls.led
+        back_free = about_controlled m so.polls.controlled
 
         pub back_room : 4 * limit + 48 ≤ spare_of q → 33 ≤ spare_of (about_to_send m)
         back_room room =
@@ -252,8 +252,8 @@ module _ {M : Type 0} (view : M → MediumView) (a limit : ℕ) (q : RingView M)
             let same = long.1 in
             let kept = where_short (length (devices_of m)) m.books.kept in
             let lent = where_short 0 m.books.lent in
-            let log = length-append (m.books.log ++ entry_where (length (devices_of m)) m.books.kept) (entry_where 0 m.books.lent) in
-            let front = length-append m.books.log (entry_where (length (devices_of m)) m.books.kept) in
+            let log = length-append (m.books.log ++ entry_of_kept (length (devices_of m)) m.books.kept) (entry_of_kept 0 m.books.lent) in
+            let front = length-append m.books.log (entry_of_kept (length (devices_of m)) m.books.kept) in
             let back : 33 ≤ spare_of (taken_back m) = omega (arith, short, same, kept, lent, log, front, room, some_limit) in
             subst (λ t. 33 ≤ spare_of t) (sym (as_taken view a limit q m idle low so)) back
 

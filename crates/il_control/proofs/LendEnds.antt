@@ -1,9 +1,9 @@
 -- A lend in which a second controller took control: the host took it back, or the rounds broke off.
 use Rattle.il_ring.specs.declared.flight.Flight.{Flight}
-use Rattle.il_control.proofs.LentTold.{tells_left}
-use Rattle.il_control.proofs.LentMet.{met_since, risen_up}
+use Rattle.il_control.proofs.LentReports.{tells_left}
+use Rattle.il_control.proofs.LentReached.{met_since, risen_up}
 use Rattle.il_control.proofs.LentHost.{ifc_broke, ifc_whole, still_of}
-use Rattle.il_control.proofs.LendDrives.{told_behind, told_no_more}
+use Rattle.il_control.proofs.LendDrives.{told_after, told_no_more}
 use Rattle.std.proofs.Common.{List, None, Option, Some, [], ap, append-nil, append_assoc, ap₂, arith, false, inl, inr, length, length-append, refl, subst, suc, sym, true, zero, ℕ, ⊎_elim, ◌*◌, ◌++◌, ◌+◌, ◌<◌, ◌==◌, ◌||◌, ◌∙◌, ◌∷◌, ◌≡◌, ◌≤◌, nat_le}
 use Rattle.std.specs.Prelude.{if◌then◌else◌}
 use Rattle.std.specs.List.{list_all}
@@ -25,14 +25,14 @@ use Rattle.loop_model.proofs.LeadingLaws.{roles_led-no_lend}
 use Rattle.il_ring.specs.Adds.{Adds}
 use Rattle.il_ring.specs.Guests.{IsUnderHost}
 use Rattle.il_ring.specs.Polls.{is_no_poll}
-use Rattle.il_ring.specs.LedAdds.{LedSince, standing}
-use Rattle.il_ring.specs.Lending.{about_to_send, entry_where, taken_back, taken_back_where}
+use Rattle.il_ring.specs.ControlledAdds.{ControlledSince, standing}
+use Rattle.il_ring.specs.Lending.{about_to_send, entry_of_kept, taken_back, taken_back_if}
 use Rattle.il_ring.specs.Lends.{AtHost, handed_entries, lend_entries}
 use Rattle.il_ring.specs.Rings.{RingView, devices_of, drive_party}
 use Rattle.il_ring.specs.Turned.{is_on}
-use Rattle.il_ring.specs.Statuses.{answers_always, asked_all, told_by, ToldStatus}
-use Rattle.il_ring.proofs.LedRings.{led_ring}
-use Rattle.il_ring.proofs.LedSince.{since_adds, since_append, since_back}
+use Rattle.il_ring.specs.Statuses.{answers_always, asked_all, reported_by, ReportsStatus}
+use Rattle.il_ring.proofs.ControlledRings.{controlled_ring}
+use Rattle.il_ring.proofs.ControlledSince.{since_adds, since_append, since_back}
 use Rattle.il_control.specs.Calls.{Broke, IsIdle, Whole}
 use Rattle.il_control.specs.Lent.{DriveLeft, DriveTold, KeptSince, LendBroken, LendMade, LentBroke, LentSo, asked_on, base_of, last_of, controller_at}
 use Rattle.il_control.proofs.Calls.{cut_within}
@@ -52,7 +52,7 @@ back_roles k other o rest none rs =
     ap (λ own. roles_led 0 (if own then roles_along 0 o 1 (message_of ifc) rs else rs) rest) own
     ∙ roles_led-no_lend (roles_along 0 o 1 (message_of ifc) rs) rest none
 
-pub where_short : (j : ℕ) (o : Option Flight) → length (entry_where j o) ≤ 1
+pub where_short : (j : ℕ) (o : Option Flight) → length (entry_of_kept j o) ≤ 1
 where_short j None = omega arith
 where_short j (Some f) = omega arith
 
@@ -81,22 +81,22 @@ module _ {M : Type 0} (view : M → MediumView) (a limit : ℕ) (q r : RingView 
   lows = addresses_are (Some k) own_last so.few_asked
 
   pub as_taken : about_to_send r ≡ taken_back r
-  as_taken = ap (λ lead. taken_back_where lead r) so.polls.led.leads
+  as_taken = ap (λ lead. taken_back_if lead r) so.polls.controlled.leads
 
-  -- what stands on the ring is none of the host's
+  -- what is on the ring is none of the host's
   stays : controller_after k (standing k r.books) ≡ k
   stays =
       let ends = stands_so view k own_last (Some k) (base_of a q) r limit so.polls in
       let all = ends_theirs k no_host (asked_on q) so.polls.entries (standing k r.books) AtHost ends in
       control_stays k (standing k r.books) (and_parts (are_theirs so.polls.entries) (are_theirs (standing k r.books)) (sym (list_all-append is_theirs so.polls.entries (standing k r.books)) ∙ all)).1
 
-  since_taken : LedSince 0 k q (taken_back r) (so.added ++ standing k r.books)
+  since_taken : ControlledSince 0 k q (taken_back r) (so.added ++ standing k r.books)
   since_taken =
       since_append 0 k k q r (taken_back r) so.added (standing k r.books) so.since
-      (subst (λ j. controller_after j (standing j r.books) ≡ j → LedSince j j r (taken_back r) (standing j r.books)) so.polls.many (since_back r) stays)
+      (subst (λ j. controller_after j (standing j r.books) ≡ j → ControlledSince j j r (taken_back r) (standing j r.books)) so.polls.many (since_back r) stays)
 
   module _ (s : RingView M) (last : List Entry) (adds : Adds view (taken_back r) None last None s) (lent : s.books.lent ≡ None) (kept : s.books.kept ≡ None) (back : controller_after k last ≡ 0) (roles : (rs : List Roles) → roles_led k rs last ≡ roles_after rs last) where
-    all_since : LedSince 0 0 q s ((so.added ++ standing k r.books) ++ last)
+    all_since : ControlledSince 0 0 q s ((so.added ++ standing k r.books) ++ last)
     all_since = since_append 0 k 0 q (taken_back r) s (so.added ++ standing k r.books) last since_taken (since_adds view k 0 (taken_back r) s last adds refl refl lent kept back roles)
 
     -- these are the entries of the lend
@@ -105,8 +105,8 @@ module _ {M : Type 0} (view : M → MediumView) (a limit : ℕ) (q r : RingView 
         sym (append_assoc q.books.log (so.added ++ standing k r.books) last)
         ∙ ap (λ log. log ++ last) (sym (append_assoc q.books.log so.added (standing k r.books)) ∙ ap (λ log. log ++ standing k r.books) (sym so.since.log))
 
-    since_as : (before : List Entry) → (r.books.log ++ standing k r.books) ++ last ≡ q.books.log ++ before → LedSince 0 0 q s before
-    since_as before is = subst (λ es. LedSince 0 0 q s es) (append_cancel_left q.books.log ((so.added ++ standing k r.books) ++ last) before (log_now ∙ is)) all_since
+    since_as : (before : List Entry) → (r.books.log ++ standing k r.books) ++ last ≡ q.books.log ++ before → ControlledSince 0 0 q s before
+    since_as before is = subst (λ es. ControlledSince 0 0 q s es) (append_cancel_left q.books.log ((so.added ++ standing k r.books) ++ last) before (log_now ∙ is)) all_since
 
   -- taking control back changes the log alone
   taken_kept : KeptSince q (taken_back r)
@@ -120,7 +120,7 @@ module _ {M : Type 0} (view : M → MediumView) (a limit : ℕ) (q r : RingView 
       let all = ap length is ∙ length-append q.books.log entries in
       let left = length-append (r.books.log ++ standing k r.books) last in
       let mid = length-append r.books.log (standing k r.books) in
-      let stood = length-append (entry_where k r.books.kept) (entry_where 0 r.books.lent) in
+      let stood = length-append (entry_of_kept k r.books.kept) (entry_of_kept 0 r.books.lent) in
       let kept = where_short k r.books.kept in
       let lent = where_short 0 r.books.lent in
       let log = ap length so.polls.log ∙ length-append (base_of a q) so.polls.entries in
@@ -143,11 +143,11 @@ module _ {M : Type 0} (view : M → MediumView) (a limit : ℕ) (q r : RingView 
       let party : drive_party r ≡ drive_party q = ap (λ n. n + 1) so.kept.before in
       let rounds : answers_always k (drive_party q) None so.polls.entries ≡ true =
       sym (ap₂ (λ j p. answers_always j p None so.answers.entries) so.polls.many party ∙ ap (answers_always k (drive_party q) None) same) ∙ so.answers.answered in
-      let behind = standing k r.books ++ last in
-      let still : are_mute k behind ≡ true = list_all-append (is_mute k) (standing k r.books) last ∙ and_from (are_mute k (standing k r.books)) (are_mute k last) (standing_told view k own_last (Some k) (base_of a q) r limit so.polls) mute in
+      let after = standing k r.books ++ last in
+      let still : are_mute k after ≡ true = list_all-append (is_mute k) (standing k r.books) last ∙ and_from (are_mute k (standing k r.books)) (are_mute k last) (standing_told view k own_last (Some k) (base_of a q) r limit so.polls) mute in
       ap (answers_always k (drive_party q) None) (entries_for last entries is)
-      ∙ answers-front k (drive_party q) (handed_entries a k) (so.polls.entries ++ behind) (handed-asks k a host_other)
-      (answers-append k (drive_party q) None so.polls.entries behind rounds (are_mute-answers k (drive_party q) (asked_all k None so.polls.entries) behind still))
+      ∙ answers-front k (drive_party q) (handed_entries a k) (so.polls.entries ++ after) (handed-asks k a host_other)
+      (answers-append k (drive_party q) None so.polls.entries after rounds (are_mute-answers k (drive_party q) (asked_all k None so.polls.entries) after still))
 
   -- ---- the IFC and its RFC came back
 
@@ -158,7 +158,7 @@ module _ {M : Type 0} (view : M → MediumView) (a limit : ℕ) (q r : RingView 
     abbrev made_so : LendsSo k (asked_on q) limit a true q.books.log ((r.books.log ++ standing k r.books) ++ commanded 0 ifc)
     made_so = lent_whole view k own_last (Some k) (base_of a q) r limit so.polls a q.books.log address lows refl
 
-    made_since : LedSince 0 0 q s (lend_entries k (asked_on q) made_so.lend)
+    made_since : ControlledSince 0 0 q s (lend_entries k (asked_on q) made_so.lend)
     made_since =
         since_as s (commanded 0 ifc) its_whole.adds its_whole.ring.lent its_whole.ring.kept refl (back_roles k host_other (outcome.Back ifc) (returned 0 rfc ∷ []) refl)
         (lend_entries k (asked_on q) made_so.lend) made_so.log_is
@@ -175,14 +175,14 @@ module _ {M : Type 0} (view : M → MediumView) (a limit : ℕ) (q r : RingView 
         let same : so.drive.so.entries ≡ so.polls.entries = append_cancel_left (base_of a q) so.drive.so.entries so.polls.entries (sym so.drive.so.log ∙ so.polls.log) in
         let party : drive_party r ≡ drive_party q = let e = so.kept.before in omega (arith, e) in
         let some_party : 1 ≤ drive_party q = omega arith in
-        let bytes : told_by (length (devices_of r)) (drive_party r) so.drive.so.entries ≡ told_by k (drive_party q) (lend_entries k (asked_on q) made_so.lend) =
-        ap₂ (λ j p. told_by j p so.drive.so.entries) so.polls.many party ∙ ap (told_by k (drive_party q)) same
-        ∙ sym (ap (told_by k (drive_party q)) made_entries ∙ told_behind k (drive_party q) (handed_entries a k) (so.polls.entries ++ (standing k r.books ++ commanded 0 ifc)) refl some_party
+        let bytes : reported_by (length (devices_of r)) (drive_party r) so.drive.so.entries ≡ reported_by k (drive_party q) (lend_entries k (asked_on q) made_so.lend) =
+        ap₂ (λ j p. reported_by j p so.drive.so.entries) so.polls.many party ∙ ap (reported_by k (drive_party q)) same
+        ∙ sym (ap (reported_by k (drive_party q)) made_entries ∙ told_after k (drive_party q) (handed_entries a k) (so.polls.entries ++ (standing k r.books ++ commanded 0 ifc)) refl some_party
         ∙ told_no_more k (drive_party q) so.polls.entries (standing k r.books ++ commanded 0 ifc) (list_all-append (is_mute k) (standing k r.books) (commanded 0 ifc) ∙ and_from (are_mute k (standing k r.books)) (are_mute k (commanded 0 ifc)) (standing_told view k own_last (Some k) (base_of a q) r limit so.polls) (ifc-mute k host_other))) in
         record {
           medium = stays.medium ∙ so.drive.so.medium;
-          told = subst (λ now. ToldStatus (status_of q.drive.state) (told_by k (drive_party q) (lend_entries k (asked_on q) made_so.lend)) now) (sym stays.status)
-              (subst (λ bytes. ToldStatus (status_of q.drive.state) bytes (status_of r.drive.state)) bytes so.drive.so.told);
+          told = subst (λ now. ReportsStatus (status_of q.drive.state) (reported_by k (drive_party q) (lend_entries k (asked_on q) made_so.lend)) now) (sym stays.status)
+              (subst (λ bytes. ReportsStatus (status_of q.drive.state) bytes (status_of r.drive.state)) bytes so.drive.so.told);
         }
 
     made_short : length (lend_entries k (asked_on q) made_so.lend) ≤ 2 * limit + 9
@@ -227,7 +227,7 @@ module _ {M : Type 0} (view : M → MediumView) (a limit : ℕ) (q r : RingView 
     ended_back (suc zero) p few = (refl, back_roles k host_other (outcome.Back ifc) (entry 0 rfc (outcome.Lost p) ∷ []) refl, refl)
     ended_back (suc (suc m)) p few = let no : ⊥ = omega (arith, few) in absurd no
 
-    lost_since : LedSince 0 0 q s (lend_entries k (asked_on q) lost_so.lend)
+    lost_since : ControlledSince 0 0 q s (lend_entries k (asked_on q) lost_so.lend)
     lost_since =
         let back = ended_back n lost.0 less in
         since_as s ended adds its_broke.ring.lent its_broke.ring.kept back.0 back.1 (lend_entries k (asked_on q) lost_so.lend) lost_so.log_is
@@ -238,7 +238,7 @@ module _ {M : Type 0} (view : M → MediumView) (a limit : ℕ) (q r : RingView 
     lost_drive : DriveLeft q.drive s.drive
     lost_drive =
         let still = still_of view r.drive s.drive (ifc_broke view (taken_back r) s (returned 0 rfc ∷ []) refl refl its_broke) in
-        let left = tells_left (status_of q.drive.state) (told_by (length (devices_of r)) (drive_party r) so.drive.so.entries) (status_of r.drive.state) so.drive.so.told in
+        let left = tells_left (status_of q.drive.state) (reported_by (length (devices_of r)) (drive_party r) so.drive.so.entries) (status_of r.drive.state) so.drive.so.told in
         record {
           medium = still.medium ∙ so.drive.so.medium;
           status = ⊎_elim (λ same. inl (still.status ∙ same)) (λ none. inr (still.status ∙ none)) left;
@@ -264,8 +264,8 @@ module _ {M : Type 0} (view : M → MediumView) (a limit : ℕ) (q s : RingView 
   abbrev cut_so : LendsSo (length (devices_of q)) (asked_on q) limit a false q.books.log s.books.log
   cut_so = lent_cut view (length (devices_of q)) (last_of q.guest) (Some (length (devices_of q))) (base_of a q) s off.arrived limit a q.books.log off.off off.few (le-leb a 30 low) (addresses_are (Some (length (devices_of q))) (last_of q.guest) off.few_asked) refl
 
-  cut_since : LedSince 0 (length (devices_of q)) q s (lend_entries (length (devices_of q)) (asked_on q) cut_so.lend)
-  cut_since = subst (λ es. LedSince 0 (length (devices_of q)) q s es)
+  cut_since : ControlledSince 0 (length (devices_of q)) q s (lend_entries (length (devices_of q)) (asked_on q) cut_so.lend)
+  cut_since = subst (λ es. ControlledSince 0 (length (devices_of q)) q s es)
       (append_cancel_left q.books.log off.added (lend_entries (length (devices_of q)) (asked_on q) cut_so.lend) (sym off.since.log ∙ cut_so.log_is)) off.since
 
   cut_short : length (lend_entries (length (devices_of q)) (asked_on q) cut_so.lend) ≤ 2 * limit + 9
@@ -300,6 +300,6 @@ module _ {M : Type 0} (view : M → MediumView) (a limit : ℕ) (q s : RingView 
   pub cut_broken : a ≡ length (devices_of q) → true ≡ controller_at a q → LendBroken a limit q s
   cut_broken at stands =
       lend_broken a limit (length (devices_of q)) false q s idle cut_so.lend cut_so.is cut_so.own cut_so.whole_is cut_so.address (λ taken. at) cut_since off.kept cut_short (λ taken. sym stands) (λ back. absurd (taken_not_back cut_so.lend cut_so.taken back)) (λ not_taken. let clash = sym not_taken ∙ cut_so.taken in cc) cut_answered
-      (led_ring s off.led off.off.lent_is) refl off.drive off.led.held
-      off.met (λ keeps. off.led.leads)
+      (controlled_ring s off.controlled off.off.lent_is) refl off.drive off.controlled.held
+      off.met (λ keeps. off.controlled.leads)
       (λ back. let clash = sym back ∙ lent_cut-back view (length (devices_of q)) (last_of q.guest) (Some (length (devices_of q))) (base_of a q) s off.arrived limit a q.books.log off.off off.few (le-leb a 30 low) (addresses_are (Some (length (devices_of q))) (last_of q.guest) off.few_asked) refl in cc)

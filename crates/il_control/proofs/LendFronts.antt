@@ -13,12 +13,12 @@ use Rattle.loop_model.proofs.LeadingLaws.{controller_after-no_lend, roles_led-no
 use Rattle.loop_model.proofs.RoundLaws.{message_of-tad}
 use Rattle.il_ring.specs.Adds.{Adds}
 use Rattle.il_ring.specs.Guests.{IsUnderHost}
-use Rattle.il_ring.specs.LedAdds.{LedSince}
+use Rattle.il_ring.specs.ControlledAdds.{ControlledSince}
 use Rattle.il_ring.specs.Lends.{NoTaker, NoTakerCut, came_back, refused_entries}
 use Rattle.il_ring.specs.Polls.{is_no_poll, is_poll}
 use Rattle.il_ring.specs.Rings.{RingView, devices_of, drive_party}
 use Rattle.il_ring.specs.Turned.{is_on}
-use Rattle.il_ring.proofs.LedSince.{since_adds}
+use Rattle.il_ring.proofs.ControlledSince.{since_adds}
 use Rattle.il_control.specs.Calls.{Broke, IsIdle, Unheard, Whole}
 use Rattle.il_control.specs.Lent.{KeptSince, LendBroken, LendMade, controller_at}
 use Rattle.il_control.proofs.Calls.{cut_within, unheard_then}
@@ -121,7 +121,7 @@ module _ {M : Type 0} (view : M → MediumView) (a limit : ℕ) (q s : RingView 
       let all = length-append q.before (device_of q.drive.state ∷ q.after) in
       ne_eqb 0 (length (devices_of q)) (λ e. omega (arith, e, all))
 
-  host_since : (entries : List Entry) → Adds view q None entries None s → s.books.lent ≡ None → s.books.kept ≡ None → has_no_lend entries ≡ true → LedSince 0 0 q s entries
+  host_since : (entries : List Entry) → Adds view q None entries None s → s.books.lent ≡ None → s.books.kept ≡ None → has_no_lend entries ≡ true → ControlledSince 0 0 q s entries
   host_since entries adds lent kept none =
       since_adds view 0 0 q s entries adds idle.free.ring.lent idle.free.ring.kept lent kept (controller_after-no_lend entries none) (λ rs. roles_led-no_lend rs entries none)
 

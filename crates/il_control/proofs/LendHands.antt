@@ -1,4 +1,4 @@
--- Where the host asked a device to talk so as to lend the ring to it: whether that is the second controller, and how the ring stands then.
+-- The host asked a device to talk so as to lend the ring to it: whether that is the second controller, and how the ring is then.
 use Rattle.std.proofs.Common.{◌≡◌, ◌∙◌, ◌≤◌, ◌+◌, ◌++◌, ◌&&◌, ◌==◌, ℕ, suc, Bool, true, false, not, List, [], ◌∷◌, Option, Some, None, length, map, refl, sym, ap, ap₂, subst, arith, append_assoc, length-append}
 use Rattle.std.specs.Prelude.{if◌then◌else◌, is_some, nat_le}
 use Rattle.std.proofs.lemmas.Bool.{and_parts, and_from, eqb-true, le-leb}
@@ -34,11 +34,11 @@ along_each f party m [] passes = refl
 along_each f party m (r ∷ rs) passes =
     ap (λ n. roles_by m r ∷ roles_along 0 (outcome.Back f) (suc party) n rs) (passes r) ∙ ap (λ rs. roles_by m r ∷ rs) (along_each f (suc party) m rs passes)
 
--- behind UNL and TAD a
+-- after UNL and TAD a
 abbrev pub asked_roles : ℕ → List Roles → List Roles
 asked_roles a rs = map (roles_by (msg.Tad a)) (map (roles_by msg.Unl) rs)
 
--- it talks exactly where that is its address
+-- it talks if and only if that is its address
 pub told_to_talk : (a : ℕ) (r : Roles) → (roles_by (msg.Tad a) (roles_by msg.Unl r)).talks ≡ is_own r.address a
 told_to_talk a r = by_own (is_own r.address a)
   where
@@ -74,12 +74,12 @@ last_asked_talks a (d ∷ []) (e ∷ e2 ∷ es) same = let rest = ap rest_of sam
 last_asked_talks a (d ∷ d2 ∷ ds) (e ∷ []) same = let rest = ap rest_of same in cc
 last_asked_talks a (d ∷ d2 ∷ ds) (e ∷ e2 ∷ es) same = last_asked_talks a (d2 ∷ ds) (e2 ∷ es) (ap rest_of same)
 
--- of the devices behind so many
-roles_behind : (a : ℕ) (ds es more later : List DeviceState) → length es ≡ length ds → roles_of (es ++ later) ≡ asked_roles a (roles_of (ds ++ more)) → roles_of later ≡ asked_roles a (roles_of more)
-roles_behind a [] [] more later size same = same
-roles_behind a [] (e ∷ es) more later size same = cc
-roles_behind a (d ∷ ds) [] more later size same = cc
-roles_behind a (d ∷ ds) (e ∷ es) more later size same = roles_behind a ds es more later (omega (arith, size)) (ap rest_of same)
+-- of the devices after this many
+roles_of_rest : (a : ℕ) (ds es more later : List DeviceState) → length es ≡ length ds → roles_of (es ++ later) ≡ asked_roles a (roles_of (ds ++ more)) → roles_of later ≡ asked_roles a (roles_of more)
+roles_of_rest a [] [] more later size same = same
+roles_of_rest a [] (e ∷ es) more later size same = cc
+roles_of_rest a (d ∷ ds) [] more later size same = cc
+roles_of_rest a (d ∷ ds) (e ∷ es) more later size same = roles_of_rest a ds es more later (omega (arith, size)) (ap rest_of same)
 
 last_of : (ds : List DeviceState) (d : DeviceState) → last_talks (ds ++ d ∷ []) ≡ d.roles.talks
 last_of [] d = refl
@@ -133,9 +133,9 @@ module _ {M : Type 0} (view : M → MediumView) (q r : RingView M) (a : ℕ) (id
   told = asked.whole.adds.roles ∙ asked_roles-front a (roles_of (devices_of q)) idle.numbered idle.silent low
 
   pub last_where : last_talks r.after ≡ last_at a q.after
-  last_where = last_asked_talks a q.after r.after (ap rest_of (roles_behind a q.before r.before (device_of q.drive.state ∷ q.after) (device_of r.drive.state ∷ r.after) asked.whole.adds.before told))
+  last_where = last_asked_talks a q.after r.after (ap rest_of (roles_of_rest a q.before r.before (device_of q.drive.state ∷ q.after) (device_of r.drive.state ∷ r.after) asked.whole.adds.before told))
 
-  -- by TCT it hands control over exactly where a second controller stands at that address
+  -- by TCT it hands control over if and only if a second controller is at that address
   pub hands_where : hands_over r tct ≡ controller_at a q
   hands_where = ap₂ (λ guest last. is_some guest && last) asked_guest last_where
 

@@ -8,20 +8,20 @@ use Rattle.il_drive.specs.State.{device_of}
 use Rattle.loop_model.specs.Leading.{OneTalkerLed, controller_after_entry, has_one_talker_led, is_in_turn_led, roles_led, roles_led_entry}
 use Rattle.loop_model.specs.Reach.{links_of}
 use Rattle.loop_model.specs.Roles.{are_numbered, is_at_most_one, talkers}
-use Rattle.il_ring.specs.LedAdds.{AllTookSince, LedSince, standing}
-use Rattle.il_ring.specs.Lends.{came_back, is_lend, is_whole_lend, keeps_control, Lend, lend_address, lend_entries, Lent, LentCut, LentLost, NoTaker, NoTakerCut, tells_own, took_back, was_taken}
+use Rattle.il_ring.specs.ControlledAdds.{AllTookSince, ControlledSince, standing}
+use Rattle.il_ring.specs.Lends.{came_back, is_lend, is_whole_lend, keeps_control, Lend, lend_address, lend_entries, Lent, LentCut, LentLost, NoTaker, NoTakerCut, reports_own, took_back, was_taken}
 use Rattle.il_ring.specs.Guests.{IsUnderHost}
 use Rattle.il_ring.specs.Lending.{leads}
 use Rattle.il_ring.specs.Rings.{IsRing, RingView, devices_of, drive_party, roles_of}
 use Rattle.il_ring.specs.Statuses.{answers_always}
-use Rattle.il_ring.proofs.LedDoes.{length-roles_of}
-use Rattle.il_ring.proofs.LedSince.{none_stands}
-use Rattle.il_ring.proofs.LendLaws.{lend_led}
+use Rattle.il_ring.proofs.ControlledDoes.{length-roles_of}
+use Rattle.il_ring.proofs.ControlledSince.{none_stands}
+use Rattle.il_ring.proofs.LendLaws.{lend_controlled}
 use Rattle.il_ring.proofs.LendTalkers.{lend_idle, lend_one_talker}
 use Rattle.il_control.specs.Calls.{IsIdle}
 use Rattle.il_control.specs.Lent.{DriveLeft, DriveTold, KeptSince, LendBroken, LendMade, Lends, asked_on, controller_at}
 
--- where control was taken TCT did not come back
+-- if control was taken TCT did not come back
 pub taken_not_back : (lend : Lend) → was_taken lend ≡ true → came_back lend ≡ true → ⊥
 taken_not_back (NoTaker a) taken back = cc
 taken_not_back (NoTakerCut a n q) taken back = cc
@@ -30,15 +30,15 @@ taken_not_back (LentCut a answers n end) taken back = cc
 taken_not_back (LentLost a answers n m q) taken back = cc
 
 -- at most one talks at its end
-one_led : (c : ℕ) (rs : List Roles) (log : List Entry) → has_one_talker_led c rs log ≡ true → is_at_most_one (talkers (roles_led c rs log)) ≡ true
-one_led c rs [] one = one
-one_led c rs (e ∷ log) one =
+one_controlled : (c : ℕ) (rs : List Roles) (log : List Entry) → has_one_talker_led c rs log ≡ true → is_at_most_one (talkers (roles_led c rs log)) ≡ true
+one_controlled c rs [] one = one
+one_controlled c rs (e ∷ log) one =
     let parts = and_parts (is_at_most_one (talkers rs)) (is_in_turn_led c (talkers rs) e && has_one_talker_led (controller_after_entry c e) (roles_led_entry c rs e) log) one in
     let rest = and_parts (is_in_turn_led c (talkers rs) e) (has_one_talker_led (controller_after_entry c e) (roles_led_entry c rs e) log) parts.1 in
-    one_led (controller_after_entry c e) (roles_led_entry c rs e) log rest.1
+    one_controlled (controller_after_entry c e) (roles_led_entry c rs e) log rest.1
 
-module _ {M : Type 0} (a limit d : ℕ) (whole : Bool) (q s : RingView M) (idle : IsIdle q) (lend : Lend) (is : is_lend (length (devices_of q)) (asked_on q) limit lend ≡ true) (own : tells_own (asked_on q) lend ≡ true) (whole_is : is_whole_lend lend ≡ whole)
-    (address : lend_address lend ≡ a) (at : was_taken lend ≡ true → a ≡ length (devices_of q)) (since : LedSince 0 d q s (lend_entries (length (devices_of q)) (asked_on q) lend)) (kept : KeptSince q s) (short : length (lend_entries (length (devices_of q)) (asked_on q) lend) ≤ 2 * limit + 9) (taker : was_taken lend ≡ true → controller_at a q ≡ true) (refused : came_back lend ≡ true → controller_at a q ≡ false) (same_guest : was_taken lend ≡ false → s.guest ≡ q.guest) (answered : answers_always (length (devices_of q)) (drive_party q) None (lend_entries (length (devices_of q)) (asked_on q) lend) ≡ true) (ring : IsRing s) where
+module _ {M : Type 0} (a limit d : ℕ) (whole : Bool) (q s : RingView M) (idle : IsIdle q) (lend : Lend) (is : is_lend (length (devices_of q)) (asked_on q) limit lend ≡ true) (own : reports_own (asked_on q) lend ≡ true) (whole_is : is_whole_lend lend ≡ whole)
+    (address : lend_address lend ≡ a) (at : was_taken lend ≡ true → a ≡ length (devices_of q)) (since : ControlledSince 0 d q s (lend_entries (length (devices_of q)) (asked_on q) lend)) (kept : KeptSince q s) (short : length (lend_entries (length (devices_of q)) (asked_on q) lend) ≤ 2 * limit + 9) (taker : was_taken lend ≡ true → controller_at a q ≡ true) (refused : came_back lend ≡ true → controller_at a q ≡ false) (same_guest : was_taken lend ≡ false → s.guest ≡ q.guest) (answered : answers_always (length (devices_of q)) (drive_party q) None (lend_entries (length (devices_of q)) (asked_on q) lend) ≡ true) (ring : IsRing s) where
   abbrev k : ℕ
   k = length (devices_of q)
 
@@ -68,12 +68,12 @@ module _ {M : Type 0} (a limit d : ℕ) (whole : Bool) (q s : RingView M) (idle 
   roles : roles_of (devices_of s) ≡ roles_led 0 (roles_of (devices_of q)) entries
   roles = since.roles (roles_of (devices_of q)) (sym (ap (roles_led 0 (roles_of (devices_of q))) stood)) ∙ ap (roles_led 0 (roles_of (devices_of q))) all
 
-  pub lends : Lends a limit whole q s
-  lends = record {
+  lends_as : (to : Bool) → whole ≡ to → Lends a limit to q s
+  lends_as to is_whole = record {
     lend = lend;
     is = is;
     own = own;
-    whole_is = whole_is;
+    whole_is = whole_is ∙ is_whole;
     address = address;
     log = since.log;
     short = short;
@@ -89,33 +89,7 @@ module _ {M : Type 0} (a limit d : ℕ) (whole : Bool) (q s : RingView M) (idle 
     frames = subst (λ es. AllTookSince k es entries 0 (devices_of q) (devices_of s)) stood (subst (λ es. AllTookSince k (standing k q.books) es 0 (devices_of q) (devices_of s)) all since.frames);
     roles = roles;
     one = one;
-    commands = lend_led k some (asked_on q) limit lend is;
-    taker = taker;
-    refused = refused;
-    answered = answered;
-    guest = same_guest;
-  }
-
-  -- by name
-  lends_as : (to : Bool) → whole ≡ to → Lends a limit to q s
-  unfolding lends
-  lends_as to is_whole = record {
-    lend = lend;
-    is = is;
-    own = own;
-    whole_is = whole_is ∙ is_whole;
-    address = address;
-    log = since.log;
-    short = short;
-    kept = kept;
-    size = since.size;
-    links = since.links;
-    crossings = since.crossings;
-    linked = lends.linked;
-    frames = lends.frames;
-    roles = roles;
-    one = one;
-    commands = lends.commands;
+    commands = lend_controlled k some (asked_on q) limit lend is;
     taker = taker;
     refused = refused;
     answered = answered;
@@ -152,6 +126,6 @@ module _ {M : Type 0} (a limit d : ℕ) (whole : Bool) (q s : RingView M) (idle 
     host_leads = host;
     lost = record {
       free = record { ring = ring; held = held };
-      one = ap (λ rs. is_at_most_one (talkers rs)) roles ∙ one_led 0 (roles_of (devices_of q)) entries one;
+      one = ap (λ rs. is_at_most_one (talkers rs)) roles ∙ one_controlled 0 (roles_of (devices_of q)) entries one;
     };
   }

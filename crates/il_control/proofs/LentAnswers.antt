@@ -23,7 +23,7 @@ use Rattle.loop_model.specs.Roles.{are_numbered, roles_after}
 use Rattle.il_guest.specs.Frames.{sst}
 use Rattle.il_ring.specs.Lists.{Each}
 use Rattle.il_ring.specs.Rings.{RingView, devices_of, drive_party, roles_of}
-use Rattle.il_ring.specs.Statuses.{answers_always, asked_after, asked_all, asked_behind, is_asked, is_back, tells_none}
+use Rattle.il_ring.specs.Statuses.{answers_always, asked_after, asked_all, asked_after_message, is_asked, is_back, reports_none}
 use Rattle.il_control.specs.Brought.{Brought}
 use Rattle.il_control.specs.Calls.{Whole}
 use Rattle.il_control.specs.Polling.{AskedSince}
@@ -32,54 +32,54 @@ use Rattle.il_control.proofs.LendHands.{asked_roles, asked_roles-front, first_of
 use Rattle.il_control.proofs.LentCame.{plain_came}
 use Rattle.il_control.proofs.LentStatuses.{are_mute, asks_none, is_mute}
 
--- ---- logs one behind the other
+-- ---- logs one after the other
 
 pub answers-append : (k a : ℕ) (asked : Option ℕ) (xs ys : List Entry) → answers_always k a asked xs ≡ true → answers_always k a (asked_all k asked xs) ys ≡ true → answers_always k a asked (xs ++ ys) ≡ true
 answers-append k a asked [] ys first more = more
 answers-append k a asked (x ∷ xs) ys first more =
-    let parts = and_parts (not (is_asked a asked && tells_none k x)) (answers_always k a (asked_after k asked x) xs) first in
-    and_from (not (is_asked a asked && tells_none k x)) (answers_always k a (asked_after k asked x) (xs ++ ys)) parts.0 (answers-append k a (asked_after k asked x) xs ys parts.1 more)
+    let parts = and_parts (not (is_asked a asked && reports_none k x)) (answers_always k a (asked_after k asked x) xs) first in
+    and_from (not (is_asked a asked && reports_none k x)) (answers_always k a (asked_after k asked x) (xs ++ ys)) parts.0 (answers-append k a (asked_after k asked x) xs ys parts.1 more)
 
 -- entries by which no SST came back
-pub mute-answers : (k a : ℕ) (asked : Option ℕ) (log : List Entry) → list_all (λ e. not (tells_none k e)) log ≡ true → answers_always k a asked log ≡ true
+pub mute-answers : (k a : ℕ) (asked : Option ℕ) (log : List Entry) → list_all (λ e. not (reports_none k e)) log ≡ true → answers_always k a asked log ≡ true
 mute-answers k a asked [] all = refl
 mute-answers k a asked (e ∷ log) all =
-    let parts = and_parts (not (tells_none k e)) (list_all (λ e. not (tells_none k e)) log) all in
-    let none : tells_none k e ≡ false = not-true (tells_none k e) parts.0 in
-    and_from (not (is_asked a asked && tells_none k e)) (answers_always k a (asked_after k asked e) log) (ap (λ b. not (is_asked a asked && b)) none ∙ ap not (and-false (is_asked a asked)))
+    let parts = and_parts (not (reports_none k e)) (list_all (λ e. not (reports_none k e)) log) all in
+    let none : reports_none k e ≡ false = not-true (reports_none k e) parts.0 in
+    and_from (not (is_asked a asked && reports_none k e)) (answers_always k a (asked_after k asked e) log) (ap (λ b. not (is_asked a asked && b)) none ∙ ap not (and-false (is_asked a asked)))
     (mute-answers k a (asked_after k asked e) log parts.1)
 
 pub are_mute-answers : (k a : ℕ) (asked : Option ℕ) (log : List Entry) → are_mute k log ≡ true → answers_always k a asked log ≡ true
 are_mute-answers k a asked log all = mute-answers k a asked log (by log all)
   where
-    by : (log : List Entry) → are_mute k log ≡ true → list_all (λ e. not (tells_none k e)) log ≡ true
+    by : (log : List Entry) → are_mute k log ≡ true → list_all (λ e. not (reports_none k e)) log ≡ true
     by [] all = refl
     by (e ∷ log) all =
         let parts = and_parts (is_mute k e) (are_mute k log) all in
-        and_from (not (tells_none k e)) (list_all (λ e. not (tells_none k e)) log) (and_parts (not (tells_none k e)) _ parts.0).0 (by log parts.1)
+        and_from (not (reports_none k e)) (list_all (λ e. not (reports_none k e)) log) (and_parts (not (reports_none k e)) _ parts.0).0 (by log parts.1)
 
 -- before an address is asked
 pub answers-front : (k a : ℕ) (front log : List Entry) → asks_none k front ≡ true → answers_always k a None log ≡ true → answers_always k a None (front ++ log) ≡ true
 answers-front k a [] log none answers = answers
 answers-front k a (x ∷ front) log none answers =
     let parts = and_parts (not (x.source == k)) (asks_none k front) none in
-    ap (λ own. answers_always k a (if own then asked_behind None (message_of x.frame) else None) (front ++ log)) (not-true (x.source == k) parts.0)
+    ap (λ own. answers_always k a (if own then asked_after_message None (message_of x.frame) else None) (front ++ log)) (not-true (x.source == k) parts.0)
     ∙ answers-front k a front log parts.1 answers
 
 -- none of the host's entries does
 pub hosts-answers : (k a : ℕ) → (0 == k) ≡ false → (log : List Entry) → list_all (λ e. e.source == 0) log ≡ true → answers_always k a None log ≡ true
 hosts-answers k a other log hosts = mute-answers k a None log (by log hosts)
   where
-    by : (log : List Entry) → list_all (λ e. e.source == 0) log ≡ true → list_all (λ e. not (tells_none k e)) log ≡ true
+    by : (log : List Entry) → list_all (λ e. e.source == 0) log ≡ true → list_all (λ e. not (reports_none k e)) log ≡ true
     by [] hosts = refl
     by (e ∷ log) hosts =
         let parts = and_parts (e.source == 0) (list_all (λ e. e.source == 0) log) hosts in
         let source : (e.source == k) ≡ false = ap (λ s. s == k) (eqb-true e.source 0 parts.0) ∙ other in
-        and_from (not (tells_none k e)) (list_all (λ e. not (tells_none k e)) log) (ap (λ b. not (b && (is_frame e.frame sst && is_back e.outcome))) source) (by log parts.1)
+        and_from (not (reports_none k e)) (list_all (λ e. not (reports_none k e)) log) (ap (λ b. not (b && (is_frame e.frame sst && is_back e.outcome))) source) (by log parts.1)
 
 -- ---- the device that is asked talks
 
--- of numbered devices that were told so by TAD a
+-- of numbered devices after TAD a
 talks_at : (a party : ℕ) (bs : List DeviceState) (d : DeviceState) (cs : List DeviceState) (rs : List Roles) → roles_of (bs ++ d ∷ cs) ≡ asked_roles a rs → are_numbered party rs ≡ true → a ≡ party + length bs → d.roles.talks ≡ true
 talks_at a party [] d cs [] same numbers at = cc
 talks_at a party [] d cs (r ∷ rs) same numbers at =
@@ -106,7 +106,7 @@ module _ {M : Type 0} (view : M → MediumView) (m n : RingView M) (a : ℕ) (lo
   drive_calm : m.drive.state.interface.own ≡ None
   drive_calm = (each_at IsCalm 1 m.before (device_of m.drive.state) m.after calm).1
 
-  -- the drive does not let SST pass where it is asked
+  -- the drive does not let SST pass if it is asked
   pub not_untold : (whole : Whole view m (returned 0 sst ∷ []) n) → own_frames whole.adds.answers ≡ [] → a ≡ drive_party m → ⊥
   not_untold whole said at = by whole.adds.came whole.adds.answers (whole.brought refl) whole.adds.drive said
     where

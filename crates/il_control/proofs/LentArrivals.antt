@@ -1,4 +1,4 @@
--- How many frames came to the host where the rounds of a second controller break off.
+-- How many frames came to the host when the rounds of a second controller break off.
 use Rattle.std.proofs.Common.{◌≡◌, ◌∙◌, ◌⊎◌, ⊎_elim, ◌≤◌, ◌<◌, ◌+◌, ◌++◌, ℕ, zero, suc, Bool, true, false, List, [], ◌∷◌, cond, ap, ap₂, arith}
 use Rattle.std.specs.Prelude.{◌-◌, if◌then◌else◌, nat_le, nat_lt}
 use Rattle.std.proofs.lemmas.Bool.Decides.{nat_tests}
@@ -63,7 +63,7 @@ came_second k e f none = let sum = came_by-append k (e ∷ []) (f ∷ []) in ome
 
 -- ---- as the second controller sees it
 
--- behind this source, or before itself
+-- after this source, or before itself
 pub turned_ahead : (k p q : ℕ) → p < k → (q ≡ 0) ⊎ (p < q) → p < turned k q
 turned_ahead k p zero less where_ = less
 turned_ahead k p (suc q) less where_ = ⊎_elim (λ none. omega (arith, none)) (λ far. far) where_

@@ -28,7 +28,7 @@ use Rattle.il_ring.specs.Plans.{IsPlan, next_fault}
 use Rattle.il_ring.specs.Flights.{altered_by, ended_at, hit, lost_at, sourced}
 use Rattle.il_ring.specs.Fates.{HoldsByPlan}
 use Rattle.il_ring.specs.Lends.{BreaksOff, ByteLost}
-use Rattle.il_ring.specs.Lending.{IsLed, entry_where, going_on}
+use Rattle.il_ring.specs.Lending.{IsControlled, entry_of_kept, going_on}
 use Rattle.il_ring.specs.Lists.{Each}
 use Rattle.il_ring.specs.Outcomes.{IsTalking, StoodSo}
 use Rattle.il_ring.specs.Remaining.{BeginRounds, asked_yet, from_byte, from_start, from_unt}
@@ -50,11 +50,11 @@ use Rattle.il_control.proofs.Talking.{asked_talks, talking_alone}
 -- ---- on the ring of the others
 
 -- a frame of theirs is held there, as on a ring with the same devices
-pub hold_again : {M : Type 0} (s m : RingView M) (boxed : List DeviceState) (last : DeviceState) (h : IsHolding m) (at : Flight) → s.after ≡ boxed ++ last ∷ [] → IsLed s → devices_of m ≡ devices_of (own_ring boxed (Some at) (going_on s)) → at.source ≡ h.flight.source → at.sent ≡ h.flight.sent → StoodSo at
+pub hold_again : {M : Type 0} (s m : RingView M) (boxed : List DeviceState) (last : DeviceState) (h : IsHolding m) (at : Flight) → s.after ≡ boxed ++ last ∷ [] → IsControlled s → devices_of m ≡ devices_of (own_ring boxed (Some at) (going_on s)) → at.source ≡ h.flight.source → at.sent ≡ h.flight.sent → StoodSo at
     → HoldsByPlan s.books.plan s.books.begun s.books.crossings (Some at) → (now : IsHolding (own_ring boxed (Some at) (going_on s))) × (now.flight ≡ at) × (now.own ≡ h.own)
-hold_again s m boxed last h at after led same source sent stood way = (
+hold_again s m boxed last h at after controlled same source sent stood way = (
   record {
-    ring = own_ring-IsRing s boxed last (Some at) after led (λ e. let some = h.talking.party in omega (arith, some, source, e), stood.data_frame) way;
+    ring = own_ring-IsRing s boxed last (Some at) after controlled (λ e. let some = h.talking.party in omega (arith, some, source, e), stood.data_frame) way;
     host = tt;
     flight = at;
     held = refl;
@@ -144,7 +144,7 @@ module _ {M : Type 0} (view : M → MediumView) (k last : ℕ) (own : Option ℕ
     within : (q : ℕ) → (own_of : Option OwnFrame) → IsTalking q own_of (devices_of (rest view r s answer so.two)) → (1 ≤ q) × (q < k)
     within q own_of talked =
         let many = own_ring-length r so.two.boxed so.two.g.device None so.two.after in
-        let all = ap length talked.devices_are ∙ length-append talked.before (talked.talker ∷ talked.behind) in
+        let all = ap length talked.devices_are ∙ length-append talked.before (talked.talker ∷ talked.after) in
         (omega (arith, talked.party), omega (arith, talked.party, many, all, old.many))
 
     taken : (q : ℕ) (d : Echo) → is_echo d ≡ true → IsTalking q None (devices_of (rest view r s answer so.two)) → BeginRounds k A (old.entries ++ entry k sst (outcome.Taken q) ∷ []) more (λ now later. returned k nrd ∷ from_byte k A more q d now later)
@@ -180,8 +180,8 @@ module _ {M : Type 0} (view : M → MediumView) (k last : ℕ) (own : Option ℕ
         ⊎_elim
         (λ (there : StandsThere (going_on r) e (sourced k nrd) (Some flight) out.0 answer s).
         let lent = there.lent_is ∙ ap (λ f. Some f) (own_hit k nrd _ there.at refl there.came) in
-        let way = subst (HoldsByPlan s.books.plan s.books.begun s.books.crossings) there.kept_is so.led_then.told.kept in
-        let again = hold_again s (rest_then view r s answer so.two) so.two.boxed_then so.two.h.device held.began.now flight so.two.after_then so.led_then refl refl refl held.began.now.stood way in
+        let way = subst (HoldsByPlan s.books.plan s.books.begun s.books.crossings) there.kept_is so.controlled_then.told.kept in
+        let again = hold_again s (rest_then view r s answer so.two) so.two.boxed_then so.two.h.device held.began.now flight so.two.after_then so.controlled_then refl refl refl held.began.now.stood way in
         inl (polls_on view k last own base r s arrived answer None (sourced 0 sst) old so (place.Held a flight.now) e held.control held.last held.address held.range one (omega arith) there.log_is (
           more,
           stands.1,
@@ -198,13 +198,13 @@ module _ {M : Type 0} (view : M → MediumView) (k last : ℕ) (own : Option ℕ
         )))
         (λ not.
         let ends = nrd_lost k A (old.entries ++ e) more q (own_echo flight.sent) (taken q (own_echo flight.sent) (own_echo-is flight.sent held.began.now.data_frame) held.began.talked) 0 (omega arith) in
-        let kept_is : entry_where (length (devices_of (going_on r))) (Some flight) ++ lost_at (sourced k nrd) 0 ∷ [] ≡ entry q flight.sent (outcome.Taken k) ∷ entry k nrd (outcome.Lost 0) ∷ [] = kept_entry flight in_.1 in
+        let kept_is : entry_of_kept (length (devices_of (going_on r))) (Some flight) ++ lost_at (sourced k nrd) 0 ∷ [] ≡ entry q flight.sent (outcome.Taken k) ∷ entry k nrd (outcome.Lost 0) ∷ [] = kept_entry flight in_.1 in
         inr (broke_off view k last own base r s arrived old e (entry q flight.sent (outcome.Taken k) ∷ entry k nrd (outcome.Lost 0) ∷ []) (BreaksOff (FrameLost 0)) ends refl
         (let none = came_second k (entry q flight.sent (outcome.Taken k)) (entry k nrd (outcome.Lost 0)) (came_taken_ahead k q k flight.sent in_.1 (omega arith)) ∙ came_lost_home k k nrd in omega (arith, one, none))
         (omega arith) (not.0.log_is ∙ ap (λ es. r.books.log ++ (e ++ es)) kept_is) not.0.lent_is))
         out.1
       where
-        kept_entry : (f : Flight) → f.source < k → entry_where (length (devices_of (going_on r))) (Some f) ++ lost_at (sourced k nrd) 0 ∷ [] ≡ entry f.source f.sent (outcome.Taken k) ∷ entry k nrd (outcome.Lost 0) ∷ []
+        kept_entry : (f : Flight) → f.source < k → entry_of_kept (length (devices_of (going_on r))) (Some f) ++ lost_at (sourced k nrd) 0 ∷ [] ≡ entry f.source f.sent (outcome.Taken k) ∷ entry k nrd (outcome.Lost 0) ∷ []
         kept_entry f less =
             let other : (f.source == k) ≡ false = ne_eqb f.source k (λ e. omega (arith, e, less)) in
             ap (λ j. ended_at f j ∷ entry k nrd (outcome.Lost 0) ∷ []) old.many ∙ ap (λ b. entry f.source f.sent (if b then outcome.Back f.now else outcome.Taken k) ∷ entry k nrd (outcome.Lost 0) ∷ []) other
@@ -229,4 +229,4 @@ module _ {M : Type 0} (view : M → MediumView) (k last : ℕ) (own : Option ℕ
         (let none = came_lost_ahead k lost.taker (turned k lost.own_party) lost.sent far on in omega (arith, one, none))
         (omega arith) not.log_is not.lent_is))
         off)
-        (start_move view r s answer so.two old.led stands.2.kept_is a (so.control_is ∙ ap (λ p. control.Rounds p) at) calm (since_one a (devices_of (rest view r s answer so.two)) range.1 since))
+        (start_move view r s answer so.two old.controlled stands.2.kept_is a (so.control_is ∙ ap (λ p. control.Rounds p) at) calm (since_one a (devices_of (rest view r s answer so.two)) range.1 since))

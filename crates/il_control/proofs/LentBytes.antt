@@ -21,14 +21,14 @@ use Rattle.il_ring.specs.declared.plan.Arrival.{Arrival}
 use Rattle.il_ring.specs.declared.plan.Arrival.TheVariants as arrival
 use Rattle.il_ring.specs.declared.flight.Flight.{Flight}
 use Rattle.il_ring.specs.Flights.{sourced}
-use Rattle.il_ring.specs.Lending.{IsLed, books_led, going_on, led_home}
+use Rattle.il_ring.specs.Lending.{IsControlled, books_controlled, going_on, controlled_home}
 use Rattle.il_ring.specs.Outcomes.{LostWhere, Returned, WasLost, Relayed, IsLostNow, CameBack, SendsMore, EndsSending, back_entry, met_between}
 use Rattle.il_ring.specs.Rings.{RingView, Round, devices_of}
-use Rattle.il_ring.specs.Turned.{Halves, StandsNot, goes_out, keeps_then, ring_before_last, turned, turned_entry, turned_entries}
+use Rattle.il_ring.specs.Turned.{HalvesOfRound, StandsNot, goes_out, keeps_then, ring_before_last, turned, turned_entry, turned_entries}
 use Rattle.il_ring.proofs.PassSteps.{silent_home}
 use Rattle.il_ring.proofs.RelayRounds.{relay_round}
 use Rattle.il_ring.proofs.SendLaws.{plain_sent, round_released}
-use Rattle.il_control.specs.Receives.{Ended, IsHolding, NotTook, Severed}
+use Rattle.il_control.specs.Receives.{Ended, IsHolding, TakesBroken, RelayBroken}
 use Rattle.il_control.proofs.LentMoves.{party_on, party_some}
 use Rattle.il_control.proofs.LentRings.{own_ring}
 use Rattle.il_control.proofs.LentSteps.{GoesOut, goes_half, lost_half, out_half}
@@ -37,7 +37,7 @@ use Rattle.il_control.proofs.Stopping.{NrdBack, NrdEnd, NrdCame, NrdLost, nrd_se
 
 -- ---- NRD
 
-module _ {M : Type 0} (view : M → MediumView) (r s : RingView M) (held : Flight) (answer : Arrival) (two : Halves view (going_on r) (Some held) (sourced 0 nrd) answer s) where
+module _ {M : Type 0} (view : M → MediumView) (r s : RingView M) (held : Flight) (answer : Arrival) (two : HalvesOfRound view (going_on r) (Some held) (sourced 0 nrd) answer s) where
   abbrev k : ℕ
   k = length (devices_of r)
 
@@ -58,7 +58,7 @@ module _ {M : Type 0} (view : M → MediumView) (r s : RingView M) (held : Fligh
 
   -- it was lost
   pub record NrdGone (holding : IsHolding holds) : Type 0 where
-    pub not_took : NotTook view holds holding 1 holds_then
+    pub not_took : TakesBroken view holds holding 1 holds_then
     pub own_party : ℕ
     pub some : 1 ≤ turned k own_party
     pub on_ring : turned k own_party ≤ k
@@ -67,7 +67,7 @@ module _ {M : Type 0} (view : M → MediumView) (r s : RingView M) (held : Fligh
     pub ends : StandsNot (going_on r) [] (Some held) (entry k nrd (outcome.Lost (turned k own_party)) ∷ []) two.own.crossings answer s
     pub same : two.h ≡ two.g
 
-  module _ (led : IsLed r) (kept : r.books.kept ≡ Some held) (a : ℕ) (d : Frame) (at : two.g.control ≡ control.Rounds (place.Held a d)) (holding : IsHolding holds) where
+  module _ (controlled : IsControlled r) (kept : r.books.kept ≡ Some held) (a : ℕ) (d : Frame) (at : two.g.control ≡ control.Rounds (place.Held a d)) (holding : IsHolding holds) where
     lead : is_leading two.g.control ≡ true
     lead = ap is_leading at
 
@@ -114,7 +114,7 @@ module _ {M : Type 0} (view : M → MediumView) (r s : RingView M) (held : Fligh
 
 -- ---- the byte
 
-module _ {M : Type 0} (view : M → MediumView) (r s : RingView M) (flight : Flight) (answer : Arrival) (two : Halves view (going_on r) None flight answer s) where
+module _ {M : Type 0} (view : M → MediumView) (r s : RingView M) (flight : Flight) (answer : Arrival) (two : HalvesOfRound view (going_on r) None flight answer s) where
   abbrev k₂ : ℕ
   k₂ = length (devices_of r)
 
@@ -134,7 +134,7 @@ module _ {M : Type 0} (view : M → MediumView) (r s : RingView M) (flight : Fli
     pub range : IsRoundPlace (place.Command (command.Unt a))
     pub out : GoesOut (going_on r) (entry flight.source flight.sent (outcome.Back ended.back) ∷ entry flight.source eto (outcome.Taken k₂) ∷ []) (sourced k₂ unt) None answer s
 
-  -- behind nothing it was lost itself, and behind its entry ETO, or ETE where it came back altered
+  -- after nothing it was lost itself, and after its entry ETO, or ETE if it came back altered
   abbrev pub GoneSo : List Entry → Frame → Type 0
   GoneSo front frame =
       ((front ≡ []) × (frame ≡ flight.sent))
@@ -142,7 +142,7 @@ module _ {M : Type 0} (view : M → MediumView) (r s : RingView M) (flight : Fli
 
   -- it was lost; or it came back, and what its source then sent was lost
   pub record ByteGone (holding : IsHolding hold) : Type 0 where
-    pub severed : Severed view hold holding hold_then
+    pub severed : RelayBroken view hold holding hold_then
     pub front : List Entry
     pub frame : Frame
     pub kind : GoneSo front frame
@@ -157,7 +157,7 @@ module _ {M : Type 0} (view : M → MediumView) (r s : RingView M) (flight : Fli
 
   -- it came back altered, and its source ended by ETE, which silences the second controller
   pub record ByteAltered (holding : IsHolding hold) : Type 0 where
-    pub severed : Severed view hold holding hold_then
+    pub severed : RelayBroken view hold holding hold_then
     pub back : Frame
     pub came : CameBack hold hold_then flight false back
     pub own_log : two.own.log ≡ back_entry flight back ∷ entry flight.source ete (outcome.Taken 0) ∷ []
@@ -165,7 +165,7 @@ module _ {M : Type 0} (view : M → MediumView) (r s : RingView M) (flight : Fli
     pub last : two.h.last ≡ two.g.last
     pub ends : StandsNot (going_on r) (back_entry flight back ∷ entry flight.source ete (outcome.Taken k₂) ∷ []) None [] two.own.crossings answer s
 
-  module _ (led : IsLed r) (kept : r.books.kept ≡ None) (a : ℕ) (d : Frame) (at : two.g.control ≡ control.Rounds (place.Relayed a d)) (holding : IsHolding hold) (is_flight : holding.flight ≡ flight) (stopped : holding.own.stopped ≡ true) where
+  module _ (controlled : IsControlled r) (kept : r.books.kept ≡ None) (a : ℕ) (d : Frame) (at : two.g.control ≡ control.Rounds (place.Relayed a d)) (holding : IsHolding hold) (is_flight : holding.flight ≡ flight) (stopped : holding.own.stopped ≡ true) where
     lead₂ : is_leading two.g.control ≡ true
     lead₂ = ap is_leading at
 
@@ -187,7 +187,7 @@ module _ {M : Type 0} (view : M → MediumView) (r s : RingView M) (flight : Fli
         by zero some = let no : ⊥ = omega (arith, some) in absurd no
         by (suc p) some = refl
 
-    severed_of : ((answer_is : two.arrives ≡ arrival.Frame eto) → ⊥) → Severed view hold holding hold_then
+    severed_of : ((answer_is : two.arrives ≡ arrival.Frame eto) → ⊥) → RelayBroken view hold holding hold_then
     severed_of not = elim end₂ [
       | ItWentOn g is bytes went ↦ absurd (never_more (went.goes_on))
       | ItEnded is ended ↦ absurd (not is)
@@ -278,7 +278,7 @@ module _ {M : Type 0} (view : M → MediumView) (r s : RingView M) (flight : Fli
           last = so.last;
           ends =
               subst (λ n. StandsNot (going_on r) es None [] n answer s) so.past.crossings
-              (silent_home (going_on r) s answer two.behind es (keeps_then two.h.control r.books.kept) (two.books ∙ ap (λ c. led_home (is_leading c) k₂ (books_led (going_on r).books two.behind) two.behind.trip.flight) to) two.answer_is so.past.kept
+              (silent_home (going_on r) s answer two.past_all es (keeps_then two.h.control r.books.kept) (two.books ∙ ap (λ c. controlled_home (is_leading c) k₂ (books_controlled (going_on r).books two.past_all) two.past_all.trip.flight) to) two.answer_is so.past.kept
               (ap (λ c. keeps_then c r.books.kept) to ∙ kept) (so.past.flight ∙ ap (λ c. goes_out k₂ c r.books.kept) to) (so.past.log_is ∙ ap (λ log. r.books.log ++ log) (ends_by ete back log)));
         }
       where

@@ -169,7 +169,7 @@ plain_quiet_frame f plain =
 
 -- ---- what they leave of the drive
 
--- its medium and its status; where it did not listen it does not listen then
+-- its medium and its status; if it did not listen it does not listen then
 pub record StaysSo {M : Type 0} (v w : DriveView M) : Type 0 where
   pub medium : w.medium ≡ v.medium
   pub status : status_of w.state ≡ status_of v.state
@@ -228,7 +228,7 @@ module _ {M : Type 0} (view : M → MediumView) where
         deaf = λ deaf. deaf-ran view gs outs v w deaf (quiet_listens start.Status gs (all start.Status)) ran;
       }
 
-  -- ---- where it is the talker
+  -- ---- if it is the talker
 
   then_zero : (a b : ℕ) → a ≡ 0 → StatusLeft start.Status a b → b ≡ 0
   then_zero a b none (inl same) = same ∙ none
@@ -274,7 +274,7 @@ module _ {M : Type 0} (view : M → MediumView) where
           byte_is : Frame → Bool
           byte_is f = byte_of f == 0x40
 
-  -- it sent a data frame: that tells its status, which stays
+  -- it sent a data frame: that shows its status, which stays
   pub told_status : (gs : List Frame) (outs : List Out) (v w : DriveView M) (b : Frame) → AllMildFor start.Status gs → own_frames outs ≡ b ∷ [] → is_data b ≡ true → IsMildFor start.Status v.state → Ran view v gs outs w → byte_of b ≡ status_byte_of (status_of w.state)
   told_status [] [] v w b all own bytes mild ran = cc
   told_status [] (out ∷ outs) v w b all own bytes mild ran = absurd ran

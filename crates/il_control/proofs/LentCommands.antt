@@ -29,7 +29,7 @@ use Rattle.il_ring.specs.Outcomes.{Obeys}
 use Rattle.il_ring.specs.Remaining.{BeginRounds, from_command, from_ready, from_start, from_unt, asked_yet}
 use Rattle.il_ring.specs.Rings.{RingView, devices_of, roles_of}
 use Rattle.il_ring.specs.Turned.{StandsNot, StandsThere, turned}
-use Rattle.il_ring.proofs.LedSteps.{IsOwn}
+use Rattle.il_ring.proofs.ControlledSteps.{IsOwn}
 use Rattle.il_ring.proofs.Remaining.{Follow, after_next, begin_same, command_back, next_after, next_command, next_first, ready_next, yet_asked}
 use Rattle.il_control.specs.Calls.{Obeyed, Whole}
 use Rattle.il_control.proofs.LentArrivals.{came_lost_home, came_one}
@@ -38,11 +38,12 @@ use Rattle.il_control.proofs.LentPlaces.{QuietCommand, QuietReady, AskedSince, S
 use Rattle.il_control.proofs.LentPolls.{RoundsEndSo, command_no_nrd, own_lost}
 use Rattle.il_control.proofs.LentSteps.{GoesOut}
 use Rattle.il_control.proofs.LentWalks.{BrokeOff, FollowsAsked, OwnStands, Polling, StandsSo, Stays, asked, broke_off, came_by, front_of, own_hit, polls_on, yet_at}
+use Rattle.il_ring.proofs.MessageKinds.{each_command}
 
 -- ---- its own frame goes out
 
 module _ {M : Type 0} (view : M → MediumView) (k last : ℕ) (own : Option ℕ) (base : List Entry) where
-  -- behind these entries, of which one came to the host, at a place at which a frame of its own stands there
+  -- after these entries, of which one came to the host, at a place at which a frame of its own is there
   pub goes_own : (r s : RingView M) (arrived : ℕ) (answer : Arrival) (held : Option Flight) (f : Flight) (old : Polling view k last own base r arrived) (so : Stays view k last own base r s arrived old answer held f) (q : Place) (e : List Entry) → so.two.h.control ≡ control.Rounds q → so.two.h.last ≡ so.two.g.last
       → so.two.h.device.roles.address ≡ so.two.g.device.roles.address → IsRoundPlace q → came_by k e ≡ 1 → length e ≤ 2 → GoesOut (going_on r) e (sourced k (sent_at q)) None answer s → is_data (sent_at q) ≡ false → is_frame (sent_at q) nrd ≡ false
       → (yet : List ℕ) (goes : List Answer → List (List Answer) → List Entry) → BeginRounds k (asked view k last own base) (old.entries ++ e) yet goes → (more : List Entry) → goes [] [] ≡ returned k (sent_at q) ∷ more
@@ -79,7 +80,7 @@ module _ {M : Type 0} (view : M → MediumView) (k last : ℕ) (own : Option ℕ
         (λ (lost : MoveLost view r s f answer so.two).
         let not = subst (λ j. StandsNot (going_on r) [] None (entry j f (outcome.Lost (turned j lost.own_party)) ∷ []) so.two.own.crossings answer s) old.many lost.ends in
         inr (lost_own r s arrived answer old f (turned k lost.own_party) so.two.own.crossings (subst (λ j. turned j lost.own_party ≤ j) old.many lost.on_ring) not no_nrd yet goes begun more due))
-        (plain_move view r s f answer so.two old.led kept old.place q so.control_is is plain other no_ifc next)
+        (plain_move view r s f answer so.two old.controlled kept old.place q so.control_is is plain other no_ifc next)
 
   -- ---- a command
 
@@ -87,16 +88,10 @@ module _ {M : Type 0} (view : M → MediumView) (k last : ℕ) (own : Option ℕ
   Next s arrived = Polling view k last own base s (arrived + 1) ⊎ BrokeOff view k last own base s (arrived + 1)
 
   pub command_other : (c : Command) → is_data (command_frame c) ≡ false
-  command_other command.Nop = refl
-  command_other (command.Unl a) = refl
-  command_other (command.Tad a) = refl
-  command_other (command.Unt a) = refl
+  command_other = each_command (λ c. is_data (command_frame c) ≡ false) refl (λ a. refl) (λ a. refl) (λ a. refl)
 
   pub said_other : (c : Command) → is_ifc (command_says c) ≡ false
-  said_other command.Nop = refl
-  said_other (command.Unl a) = refl
-  said_other (command.Tad a) = refl
-  said_other (command.Unt a) = refl
+  said_other = each_command (λ c. is_ifc (command_says c) ≡ false) refl (λ a. refl) (λ a. refl) (λ a. refl)
 
   pub command_due : (more : List ℕ) (c : Command) → (rest : List Entry) × (from_command k (asked view k last own base) more c [] [] ≡ returned k (command_frame c) ∷ rest)
   command_due more command.Nop = (_, refl)

@@ -1,4 +1,4 @@
--- The drive while a second controller polls: it keeps its medium, and its status is as it was or told, from any place
+-- The drive while a second controller polls: it keeps its medium, and its status is as it was or reported, from any place
 -- of the rounds to the next.
 use Rattle.std.proofs.Common.{◌≡◌, ◌≢◌, ◌∙◌, inl, inr, ⊎_elim, ◌≤◌, ◌+◌, ℕ, true, false, List, [], ◌∷◌, Option, Some, None, length, refl, sym, ap, subst, arith, length-append}
 use Rattle.std.proofs.lemmas.Bool.{and_from, cases_lt}
@@ -29,12 +29,12 @@ use Rattle.il_guest.proofs.SentLemmas.{command_says, message_of-command}
 use Rattle.il_ring.specs.declared.plan.Arrival.{Arrival}
 use Rattle.il_ring.specs.declared.flight.Flight.{Flight}
 use Rattle.il_ring.specs.Flights.{sourced}
-use Rattle.il_ring.specs.Lending.{IsLed, going_on}
+use Rattle.il_ring.specs.Lending.{IsControlled, going_on}
 use Rattle.il_ring.specs.Lists.{Each}
 use Rattle.il_ring.specs.Rings.{RingView, devices_of, drive_party}
-use Rattle.il_ring.specs.Statuses.{told_by, ToldStatus}
+use Rattle.il_ring.specs.Statuses.{reported_by, ReportsStatus}
 use Rattle.il_ring.specs.Turned.{turned_flight}
-use Rattle.il_ring.proofs.LedSteps.{IsOwn}
+use Rattle.il_ring.proofs.ControlledSteps.{IsOwn}
 use Rattle.il_control.specs.Lent.{DriveLeft}
 use Rattle.il_control.specs.Receives.{IsCalm, IsHolding}
 use Rattle.il_control.proofs.LentBytes.{ByteAltered, ByteBack, ByteGone, NrdGone, NrdOn, byte_move, hold, hold_then, holds, holds_then, nrd_move}
@@ -47,8 +47,9 @@ use Rattle.il_control.proofs.LentRounds.{Passed, turned_same}
 use Rattle.il_control.proofs.LentStarts.{NoStatus, StatusHeld, StartLostAt, StatusLost, rest, rest_then, start_move}
 use Rattle.il_control.proofs.LentSteps.{GoesOut}
 use Rattle.il_control.proofs.LentTelling.{byte_stands, held_stands, within}
-use Rattle.il_control.proofs.LentTold.{tells_more, told_mine, told_one, told_other}
+use Rattle.il_control.proofs.LentReports.{tells_more, told_mine, told_one, told_other}
 use Rattle.il_control.proofs.LentWalks.{Polling, StandsSo, Stays, front_of, stays}
+use Rattle.il_ring.proofs.MessageKinds.{each_command}
 
 then_own : (own : Option ℕ) (last : ℕ) (c : Command) → IsOwn (command_then own last c)
 then_own own last command.Nop = tt
@@ -57,30 +58,18 @@ then_own own last (command.Tad a) = tt
 then_own own last (command.Unt a) = tt
 
 command_other : (c : Command) → is_data (command_frame c) ≡ false
-command_other command.Nop = refl
-command_other (command.Unl a) = refl
-command_other (command.Tad a) = refl
-command_other (command.Unt a) = refl
+command_other = each_command (λ c. is_data (command_frame c) ≡ false) refl (λ a. refl) (λ a. refl) (λ a. refl)
 
 command_no_eto : (c : Command) → is_frame (command_frame c) eto ≡ false
-command_no_eto command.Nop = refl
-command_no_eto (command.Unl a) = refl
-command_no_eto (command.Tad a) = refl
-command_no_eto (command.Unt a) = refl
+command_no_eto = each_command (λ c. is_frame (command_frame c) eto ≡ false) refl (λ a. refl) (λ a. refl) (λ a. refl)
 
 said_other : (c : Command) → is_ifc (command_says c) ≡ false
-said_other command.Nop = refl
-said_other (command.Unl a) = refl
-said_other (command.Tad a) = refl
-said_other (command.Unt a) = refl
+said_other = each_command (λ c. is_ifc (command_says c) ≡ false) refl (λ a. refl) (λ a. refl) (λ a. refl)
 
 said_plain : (c : Command) → plain_message (command_says c) ≡ true
-said_plain command.Nop = refl
-said_plain (command.Unl a) = refl
-said_plain (command.Tad a) = refl
-said_plain (command.Unt a) = refl
+said_plain = each_command (λ c. plain_message (command_says c) ≡ true) refl (λ a. refl) (λ a. refl) (λ a. refl)
 
-module _ {M : Type 0} (view : M → MediumView) (k last : ℕ) (own : Option ℕ) (base : List Entry) (r s : RingView M) (arrived : ℕ) (answer : Arrival) (old : Polling view k last own base r arrived) (passed : Passed view r answer s) (led : IsLed s) (before : DriveView M) (mild : DriveMild before base r) where
+module _ {M : Type 0} (view : M → MediumView) (k last : ℕ) (own : Option ℕ) (base : List Entry) (r s : RingView M) (arrived : ℕ) (answer : Arrival) (old : Polling view k last own base r arrived) (passed : Passed view r answer s) (controlled : IsControlled s) (before : DriveView M) (mild : DriveMild before base r) where
   abbrev Went : Type 0
   Went = DriveWent view before base r s
 
@@ -102,7 +91,7 @@ module _ {M : Type 0} (view : M → MediumView) (k last : ℕ) (own : Option ℕ
   own_so : (held : Option Flight) (f : Frame) → r.books.lent ≡ Some (sourced k f) → Stays view k last own base r s arrived old answer held (sourced 0 f)
   own_so held f lent =
       stays view k last own base r s arrived answer held (sourced 0 f) old
-      (passed held (sourced 0 f) (lent ∙ ap (λ k. Some (sourced k f)) (sym old.many)) many_some) led
+      (passed held (sourced 0 f) (lent ∙ ap (λ k. Some (sourced k f)) (sym old.many)) many_some) controlled
 
   module _ (held : Option Flight) (g : Flight) (so : Stays view k last own base r s arrived old answer held g) where
     many : length (devices_of s) ≡ n
@@ -118,7 +107,7 @@ module _ {M : Type 0} (view : M → MediumView) (k last : ℕ) (own : Option ℕ
         let after = ap length so.two.after_then ∙ length-append so.two.boxed_then (so.two.h.device ∷ []) in
         omega (arith, same, all, after, many)
 
-    -- a frame of its own goes out behind this entry
+    -- a frame of its own goes out after this entry
     own_on : (e : Entry) (f : Frame) → is_frame e.frame eto ≡ false → GoesOut (going_on r) (e ∷ []) (sourced n f) None answer s → StaysSo r.drive s.drive → (h : Flight) → s.books.lent ≡ Some h → DriveMild before base s
     own_on e f no_eto goes kept h lent =
         let out = stands_out r s (e ∷ []) (sourced n f) None answer goes h lent in
@@ -148,7 +137,7 @@ module _ {M : Type 0} (view : M → MediumView) (k last : ℕ) (own : Option ℕ
               (and_from (quiet_frame start.Status f) true (plain_quiet_frame f quiet) refl) refl mild.mild;
           on = nothing_stands lost.ends.lent_is;
         })
-        (plain_move view r s f answer so.two old.led kept old.place p so.control_is is plain other no_ifc next)
+        (plain_move view r s f answer so.two old.controlled kept old.place p so.control_is is plain other no_ifc next)
 
   command_went : (c : Command) → old.place ≡ place.Command c → Went
   command_went c at =
@@ -235,7 +224,7 @@ module _ {M : Type 0} (view : M → MediumView) (k last : ℕ) (own : Option ℕ
         (λ (gone : StartLostAt view r s answer start_so.two). record { left = not_begun_left view m m_then gone.failed mild.mild; on = nothing_stands gone.ends.lent_is })
         (λ (lost : StatusLost view r s answer start_so.two). record { left = not_begun_left view m m_then lost.failed mild.mild; on = nothing_stands lost.ends.lent_is })
         off)
-        (start_move view r s answer start_so.two old.led start_stands.2.kept_is a (start_so.control_is ∙ ap (λ p. control.Rounds p) at) calm (since_one a (devices_of m) (subst IsRoundPlace at old.range).1 since))
+        (start_move view r s answer start_so.two old.controlled start_stands.2.kept_is a (start_so.control_is ∙ ap (λ p. control.Rounds p) at) calm (since_one a (devices_of m) (subst IsRoundPlace at old.range).1 since))
 
   -- ---- NRD
 
@@ -284,7 +273,7 @@ module _ {M : Type 0} (view : M → MediumView) (k last : ℕ) (own : Option ℕ
           left = not_took_left view (holds view r s byte answer held_so.two) holding.0 1 (holds_then view r s byte answer held_so.two) gone.not_took mild.mild;
           on = nothing_stands gone.ends.lent_is;
         })
-        (nrd_move view r s byte answer held_so.two old.led kept_stands.2.kept_is a d (held_so.control_is ∙ ap (λ p. control.Rounds p) at) holding.0)
+        (nrd_move view r s byte answer held_so.two old.controlled kept_stands.2.kept_is a d (held_so.control_is ∙ ap (λ p. control.Rounds p) at) holding.0)
 
   -- ---- the byte
 
@@ -299,7 +288,7 @@ module _ {M : Type 0} (view : M → MediumView) (k last : ℕ) (own : Option ℕ
     byte_so =
         let on = within view k last own base r old.boxed old.device told old.after old.many there_stands.2.holding there_stands.2.holding_is in
         let lent : r.books.lent ≡ Some (turned_flight n told) = there_stands.2.lent_is ∙ ap (λ f. Some f) (sym (turned_same n told on.0)) in
-        stays view k last own base r s arrived answer None told old (passed None told lent (omega (arith, on.1, old.many))) led
+        stays view k last own base r s arrived answer None told old (passed None told lent (omega (arith, on.1, old.many))) controlled
 
     holding₂ : (h : IsHolding (hold view r s told answer byte_so.two)) × (h.flight ≡ told) × (h.own.stopped ≡ true)
     holding₂ = subst (λ boxed. (h : IsHolding (own_ring boxed (Some told) (going_on r))) × (h.flight ≡ told) × (h.own.stopped ≡ true)) byte_so.boxed_is (there_stands.2.holding, there_stands.2.holding_is, there_stands.2.stopped)
@@ -350,8 +339,8 @@ module _ {M : Type 0} (view : M → MediumView) (k last : ℕ) (own : Option ℕ
             on = λ h lent.
                 let out = stands_out r s e (sourced n unt) None answer back.out h lent in
                 goes_so before base r s mild (many None told byte_so) (party None told byte_so) e out.0 left.medium left.mild (deaf-ran view came adds.answers r.drive s.drive mild.so.deaf (quiet_listens start.Status came all) adds.drive)
-                (subst (λ bytes. ToldStatus (status_of before.state) bytes (status_of s.drive.state)) (sym (told_mine n q entries told.source told.sent back.ended.back (sym source ∙ mine) bytes))
-                (tells_more (status_of before.state) (told_by n q entries) (status_of r.drive.state) (byte_of told.sent) (status_of s.drive.state) mild.so.told tells none))
+                (subst (λ bytes. ReportsStatus (status_of before.state) bytes (status_of s.drive.state)) (sym (told_mine n q entries told.source told.sent back.ended.back (sym source ∙ mine) bytes))
+                (tells_more (status_of before.state) (reported_by n q entries) (status_of r.drive.state) (byte_of told.sent) (status_of s.drive.state) mild.so.told tells none))
                 (own_way s h out.1 lent (λ same. no_last None told byte_so (sym out.2 ∙ same)));
           }
 
@@ -373,7 +362,7 @@ module _ {M : Type 0} (view : M → MediumView) (k last : ℕ) (own : Option ℕ
         (λ (gone : ByteGone view r s told answer byte_so.two holding₂.0). record { left = severed_left view m holding₂.0 m_then gone.severed mild.mild; on = nothing_stands gone.ends.lent_is })
         (λ (gone : ByteAltered view r s told answer byte_so.two holding₂.0). record { left = severed_left view m holding₂.0 m_then gone.severed mild.mild; on = nothing_stands gone.ends.lent_is })
         off)
-        (byte_move view r s told answer byte_so.two old.led there_stands.2.kept_is a d (byte_so.control_is ∙ ap (λ p. control.Rounds p) at) holding₂.0 holding₂.1 holding₂.2)
+        (byte_move view r s told answer byte_so.two old.controlled there_stands.2.kept_is a d (byte_so.control_is ∙ ap (λ p. control.Rounds p) at) holding₂.0 holding₂.1 holding₂.2)
 
   -- ---- from any place
 
@@ -384,7 +373,7 @@ module _ {M : Type 0} (view : M → MediumView) (k last : ℕ) (own : Option ℕ
   by_place (place.Held a d) at = nrd_went a d at
   by_place (place.Relayed a d) at = byte_went a d at
 
-  -- a pass leaves the medium and the status, which may be told; and where a frame stands at the host all of it is kept
+  -- a pass leaves the medium and the status, which may be reported; and if a frame is at the host all of it is kept
   pub drive_went : DriveWent view before base r s
   drive_went = by_place old.place refl
 

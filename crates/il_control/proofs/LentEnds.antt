@@ -1,4 +1,4 @@
--- Where the host takes control back from a second controller that polls, or its rounds broke off, the log since its talk address is a lend.
+-- If the host takes control back from a second controller that polls, or its rounds broke off, the log since its talk address is a lend.
 use Rattle.std.proofs.Common.{◌≡◌, ◌∙◌, ◌≤◌, ◌<◌, ◌+◌, ◌++◌, ◌&&◌, ◌==◌, nat_le, nat_lt, ℕ, zero, suc, Bool, true, false, List, [], ◌∷◌, Option, Some, None, length, count_by, refl, sym, ap, ap₂, subst, arith, append_assoc, length-append}
 use Rattle.std.specs.Prelude.{if◌then◌else◌}
 use Rattle.std.specs.List.{list_all}
@@ -20,9 +20,9 @@ use Rattle.il_guest.specs.Rounds.{addresses, addresses_from}
 use Rattle.il_guest.specs.Steps.{command_frame}
 use Rattle.il_ring.specs.declared.flight.Flight.{Flight}
 use Rattle.il_ring.specs.Flights.{sourced}
-use Rattle.il_ring.specs.LedAdds.{standing}
-use Rattle.il_ring.specs.Lending.{entry_where}
-use Rattle.il_ring.specs.Lends.{AtHost, Lend, Lent, LentCut, LentLost, RoundsEnd, are_rounds, arrivals, arrivals_in, can_end, ended_after, handed_entries, is_break_end, is_lend, is_one_status, is_whole_lend, keeps_control, lend_address, lend_entries, rounds_entries, stands_at_last, tells_own, took_back, was_taken}
+use Rattle.il_ring.specs.ControlledAdds.{standing}
+use Rattle.il_ring.specs.Lending.{entry_of_kept}
+use Rattle.il_ring.specs.Lends.{AtHost, Lend, Lent, LentCut, LentLost, RoundsEnd, are_rounds, arrivals, arrivals_in, can_end, ended_after, handed_entries, is_break_end, is_lend, is_one_status, is_whole_lend, keeps_control, lend_address, lend_entries, rounds_entries, stands_at_last, reports_own, took_back, was_taken}
 use Rattle.il_ring.specs.Remaining.{BeginRounds, from_command, from_ready, from_start, from_unt}
 use Rattle.il_ring.specs.Rings.{RingView}
 use Rattle.il_ring.proofs.EntryMeasures.{at_host, at_party}
@@ -47,11 +47,11 @@ addresses_are own last few = addresses_low own 1 last (omega (arith, few))
 
 -- ---- a lend
 
--- Behind these entries the log goes on with those of a lend of address a, in which the last device took control.
+-- After these entries the log goes on with those of a lend of address a, in which the last device took control.
 pub record LendsSo (k : ℕ) (asked : List ℕ) (limit a : ℕ) (whole : Bool) (before log : List Entry) : Type 0 where
   pub lend : Lend
   pub is : is_lend k asked limit lend ≡ true
-  pub own : tells_own asked lend ≡ true
+  pub own : reports_own asked lend ≡ true
   pub taken : was_taken lend ≡ true
   pub whole_is : is_whole_lend lend ≡ whole
   pub address : lend_address lend ≡ a
@@ -66,7 +66,7 @@ module _ {M : Type 0} (view : M → MediumView) (k last : ℕ) (own : Option ℕ
   abbrev A : List ℕ
   A = addresses own last
 
-  -- such are the rounds, and they stand so
+  -- these are rounds of these addresses, and this end is possible there
   rounds_so : list_all (λ a. is_address a) (addresses own last) ≡ true → (entries tail : List Entry) (end : RoundsEnd) (so : RoundsEndSo k (addresses own last) entries tail end) → are_rounds k (addresses own last) so.all (length entries) end ≡ true
   rounds_so low entries tail end so =
       and_from (list_all (λ a. is_address a) A) (list_all (λ round. list_all (is_one_status k) round) so.all && can_end k (rounds_entries k A so.all) (length entries) end) low
@@ -76,7 +76,7 @@ module _ {M : Type 0} (view : M → MediumView) (k last : ℕ) (own : Option ℕ
   arrivals_are : (entries tail : List Entry) (end : RoundsEnd) (so : RoundsEndSo k (addresses own last) entries tail end) → arrivals k (rounds_entries k (addresses own last) so.all) (length entries) ≡ came_by k entries
   arrivals_are entries tail end so = ap (λ es. count_by (brings_to k 0) es) (ends_at k A entries tail end so).2
 
-  -- ---- a frame stands at the host
+  -- ---- a frame is at the host
 
   module _ (r : RingView M) (arrived : ℕ) (old : Polling view k last own base r arrived) where
     some : 1 ≤ k
@@ -85,8 +85,8 @@ module _ {M : Type 0} (view : M → MediumView) (k last : ℕ) (own : Option ℕ
         omega (arith, all, old.many)
 
     -- these are on their way
-    standing_is : (kept lent : Option Flight) (tail : List Entry) → r.books.kept ≡ kept → r.books.lent ≡ lent → entry_where k kept ++ entry_where 0 lent ≡ tail → standing k r.books ≡ tail
-    standing_is kept lent tail kept_is lent_is is = ap₂ (λ kept lent. entry_where k kept ++ entry_where 0 lent) kept_is lent_is ∙ is
+    standing_is : (kept lent : Option Flight) (tail : List Entry) → r.books.kept ≡ kept → r.books.lent ≡ lent → entry_of_kept k kept ++ entry_of_kept 0 lent ≡ tail → standing k r.books ≡ tail
+    standing_is kept lent tail kept_is lent_is is = ap₂ (λ kept lent. entry_of_kept k kept ++ entry_of_kept 0 lent) kept_is lent_is ∙ is
 
     ends_as : (tail : List Entry) → standing k r.books ≡ tail → RoundsEndSo k (addresses own last) old.entries tail AtHost → RoundsEndSo k (addresses own last) old.entries (standing k r.books) AtHost
     ends_as tail is ends = subst (λ tail. RoundsEndSo k A old.entries tail AtHost) (sym is) ends
@@ -126,7 +126,7 @@ module _ {M : Type 0} (view : M → MediumView) (k last : ℕ) (own : Option ℕ
         ends_as tail (standing_is None (Some f) tail byte.kept_is byte.lent_is (ap (λ e. e ∷ []) (at_host f in_.0)))
         (byte_stands k A old.entries stands.0 f.source (own_echo f.sent) (byte.begun f.sent (own_echo-is f.sent bytes)) bytes)
 
-    -- what ends at the host, where control is taken back now
+    -- what ends at the host, if control is taken back now
     pub stands_so : RoundsEndSo k (addresses own last) old.entries (standing k r.books) AtHost
     stands_so = by_place old.place old.stands
 
@@ -136,7 +136,7 @@ module _ {M : Type 0} (view : M → MediumView) (k last : ℕ) (own : Option ℕ
           let many = arrivals_are old.entries (standing k r.books) AtHost stands_so in
           eq-eqb (arrivals k (rounds_entries k A stands_so.all) (length old.entries) + 1) arrived (ap (λ n. n + 1) many ∙ old.arrivals)
 
-      -- with whatever comes behind it
+      -- with whatever comes after it
       log_with : (more : List Entry) → (r.books.log ++ standing k r.books) ++ more ≡ before ++ (handed_entries a k ++ (ended_after k (rounds_entries k (addresses own last) stands_so.all) (length old.entries) AtHost ++ more))
       log_with more =
           ap (λ log. (log ++ standing k r.books) ++ more) (old.log ∙ ap (λ base. base ++ old.entries) handed)
@@ -177,7 +177,7 @@ module _ {M : Type 0} (view : M → MediumView) (k last : ℕ) (own : Option ℕ
       unfolding lent_lost
       lent_lost-control m q less on = refl
 
-      -- and it came back where its RFC was lost
+      -- and it came back if its RFC was lost
       pub lent_lost-back : (m q : ℕ) (less : m < 2) (on : nat_le q k ≡ true) → took_back (lent_lost m q less on).lend ≡ (m == 1)
       unfolding lent_lost
       lent_lost-back m q less on = refl

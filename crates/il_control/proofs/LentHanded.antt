@@ -1,4 +1,4 @@
--- As TCT was taken a second controller stands at the first command of its rounds, or they broke off there.
+-- As TCT was taken a second controller is at the first command of its rounds, or they broke off there.
 use Rattle.std.proofs.Common.{◌≡◌, ◌∙◌, ◌⊎◌, inl, inr, ⊎_elim, ◌++◌, ℕ, suc, true, List, [], ◌∷◌, Option, Some, None, length, refl, sym, ap, ap₂, arith, append_assoc, append-nil, length-append}
 use Rattle.il_frames.specs.declared.entry.Entry.{Entry}
 use Rattle.il_frames.specs.declared.entry.Outcome.TheVariants as outcome
@@ -18,7 +18,7 @@ use Rattle.il_ring.specs.declared.plan.Arrival.{Arrival}
 use Rattle.il_ring.specs.Flights.{lost_at, sourced}
 use Rattle.il_ring.specs.Guests.{mind_of}
 use Rattle.il_ring.specs.HandedOver.{HandedOver}
-use Rattle.il_ring.specs.Lending.{IsLed}
+use Rattle.il_ring.specs.Lending.{IsControlled}
 use Rattle.il_ring.specs.Lends.{BreaksOff}
 use Rattle.il_ring.specs.Lists.{First}
 use Rattle.il_ring.specs.Outcomes.{Obeys}
@@ -39,7 +39,7 @@ tct_roles (d ∷ ds) (e ∷ es) took = let more = tct_roles ds es took.1 in (ap�
 tct_roles [] (e ∷ es) took = absurd took
 tct_roles (d ∷ ds) [] took = absurd took
 
-module _ {M : Type 0} (view : M → MediumView) (r s : RingView M) (answer : Arrival) (over : HandedOver r answer s) (led : IsLed s) where
+module _ {M : Type 0} (view : M → MediumView) (r s : RingView M) (answer : Arrival) (over : HandedOver r answer s) (controlled : IsControlled s) where
   abbrev pub handed_party : ℕ
   handed_party = length (devices_of r)
 
@@ -52,7 +52,7 @@ module _ {M : Type 0} (view : M → MediumView) (r s : RingView M) (answer : Arr
   front : List DeviceState
   front = r.before ++ device_of r.drive.state ∷ over.boxed
 
-  -- where none of the other devices talked, and each had its number as address
+  -- if none of the other devices talked, and each had its number as address
   module _ (silent : talkers (roles_of (r.before ++ device_of r.drive.state ∷ over.boxed)) ≡ []) (numbered : are_numbered 1 (roles_of (r.before ++ device_of r.drive.state ∷ over.boxed)) ≡ true) where
     abbrev asked : List ℕ
     asked = addresses over.g.device.roles.address over.g.last
@@ -71,7 +71,7 @@ module _ {M : Type 0} (view : M → MediumView) (r s : RingView M) (answer : Arr
     there : (before : ℕ) → StandsThere r (entry 0 tct (outcome.Taken (length (devices_of r))) ∷ []) (sourced (length (devices_of r)) nop) None before answer s
         → Polling view handed_party over.g.last handed_own handed_base s 1
     there before at = record {
-      led = led;
+      controlled = controlled;
       many = many;
       boxed = over.boxed_then;
       device = over.h.device;

@@ -26,7 +26,7 @@ use Rattle.il_ring.specs.declared.flight.Flight.{Flight}
 use Rattle.il_ring.specs.Flights.{hit, sourced}
 use Rattle.il_ring.specs.HandedOver.{HandedOver}
 use Rattle.il_ring.specs.Journeys.{DriveTakes, Meets, Passage, Trip, is_exact, trip}
-use Rattle.il_ring.specs.Lending.{LedRound}
+use Rattle.il_ring.specs.Lending.{ControlledRound}
 use Rattle.il_ring.specs.Lists.{First}
 use Rattle.il_ring.specs.Outcomes.{Obeys}
 use Rattle.il_ring.specs.Plans.{next_fault}
@@ -34,7 +34,7 @@ use Rattle.il_ring.specs.Rings.{RingView, devices_of, drive_party}
 use Rattle.il_ring.specs.Turned.{StandsThere}
 use Rattle.il_ring.proofs.EndsHome.{any_each}
 use Rattle.il_ring.proofs.PassKinds.{Any, Is, plain_passes}
-use Rattle.il_ring.proofs.Passes.{LostBehind, Through, goes_past, plain_hit}
+use Rattle.il_ring.proofs.Passes.{LostAfter, Through, goes_past, plain_hit}
 use Rattle.il_control.specs.Brought.{Brought, BroughtIf, ComesAs, CutBrought, MayComeAs, is_auto_address, is_from_here}
 use Rattle.il_control.specs.Calls.{Broke, Whole}
 use Rattle.il_control.specs.Lent.{DriveLeft}
@@ -89,7 +89,7 @@ cut_plain k q (suc n) (e ∷ es) gs plain came =
     by true [] came here rest = absurd came
     by true (g ∷ gs) came here rest = (comes_plain q e.frame g here came.0, rest gs came.1)
 
--- those of a lend, behind its UNL and with it
+-- those of a lend, after its UNL and with it
 pub tad_plain : (a : ℕ) → a ≤ 30 → list_all plain_entry (returned 0 rfc ∷ commanded 0 (tad a)) ≡ true
 tad_plain a low = and_from (plain_message (message_of (tad a))) true (ap plain_message (message_of-tad a low)) refl
 
@@ -196,7 +196,7 @@ module _ {M : Type 0} (view : M → MediumView) where
 
 -- ---- TCT
 
-module _ {M : Type 0} (view : M → MediumView) (r s : RingView M) (answer : Arrival) (round : LedRound view r (sourced 0 tct) answer s) where
+module _ {M : Type 0} (view : M → MediumView) (r s : RingView M) (answer : Arrival) (round : ControlledRound view r (sourced 0 tct) answer s) where
   -- it came to the drive, or did not
   tct_came : (s.drive ≡ r.drive) ⊎ ((out : Out) × DriveTakes view r.drive tct out s.drive)
   tct_came = ⊎_elim
@@ -204,7 +204,7 @@ module _ {M : Type 0} (view : M → MediumView) (r s : RingView M) (answer : Arr
       let g : Flight = record { source = 0; sent = tct; now = on.now; altered = false } in
       let at = subst (λ t. Passage (DriveTakes view) r.books.plan (length r.before + 1) t r.drive round.past_drive s.drive) on.trip_is round.at in
       meets (trip (risen_by (length r.before) r.books.crossings) r.books.log (Some g)) g (next_fault r.books.plan (risen_by (length r.before) r.books.crossings)) on.is_now at)
-      (λ (lost : LostBehind (Is tct) Any (Obeys (message_of tct)) r.books.plan 1 r.books.crossings r.books.log (sourced 0 tct) r.before round.at_drive s.before).
+      (λ (lost : LostAfter (Is tct) Any (Obeys (message_of tct)) r.books.plan 1 r.books.crossings r.books.log (sourced 0 tct) r.before round.at_drive s.before).
       inl (subst (λ t. Passage (DriveTakes view) r.books.plan (length r.before + 1) t r.drive round.past_drive s.drive) lost.trip_is round.at).1)
       (goes_past (Is tct) Any (Obeys (message_of tct)) (plain_passes tct refl) r.books.plan 1 r.books.crossings r.books.log (sourced 0 tct) r.before s.before round.at_drive (any_each 1 r.before) refl round.to_drive)
     where
@@ -232,7 +232,7 @@ module _ {M : Type 0} (view : M → MediumView) (r s : RingView M) (answer : Arr
     length_first P n [] (e ∷ es) took = absurd took
     length_first P n (d ∷ ds) [] took = absurd took
 
-    -- where the second controller's NOP stands at the host, all that is kept of the drive while it polls holds
+    -- if the second controller's NOP is at the host, all that is kept of the drive while it polls holds
     pub drive_handed : (base es : List Entry) (before : ℕ) → s.books.log ≡ base → StandsThere r es (sourced (length (devices_of r)) nop) None before answer s → DriveMild r.drive base s
     drive_handed base es before log there =
         let stays = tct_stays mild in

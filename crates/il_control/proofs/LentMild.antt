@@ -31,14 +31,14 @@ use Rattle.il_ring.specs.Lending.{going_on}
 use Rattle.il_ring.specs.Lists.{AllSilent, Each}
 use Rattle.il_ring.specs.Outcomes.{IsTalking}
 use Rattle.il_ring.specs.Rings.{RingView, devices_of, drive_party}
-use Rattle.il_ring.specs.Statuses.{ToldStatus, told_by}
+use Rattle.il_ring.specs.Statuses.{ReportsStatus, reported_by}
 use Rattle.il_control.specs.Calls.{Broke}
 use Rattle.il_control.specs.Brought.{is_from_here}
 use Rattle.il_control.specs.Lent.{DriveLeft, DriveSo}
-use Rattle.il_control.specs.Receives.{AtEnd, AtHeld, AtNext, DueAt, FirstLost, IsCalm, IsHolding, NotBegun, NotTook, Severed, StartLost, behind_start}
+use Rattle.il_control.specs.Receives.{AtEnd, AtHeld, AtNext, DueAt, FirstLost, IsCalm, IsHolding, BeginBroken, TakesBroken, RelayBroken, StartLost, after_start}
 use Rattle.il_control.proofs.LentCame.{AllQuiet, StaysSo, cut_quiet, echo_quiet, echoes_quiet, quiet_entry, quiet_frame, quiet_mild, spoken_quiet}
 use Rattle.il_control.proofs.LentSteps.{GoesOut}
-use Rattle.il_control.proofs.LentTold.{tells_left}
+use Rattle.il_control.proofs.LentReports.{tells_left}
 
 -- ---- the drive among the devices
 
@@ -50,23 +50,23 @@ tail_same x y xs ys same = ap (λ l. elim l [ [] ↦ xs | z ∷ rest ↦ rest ])
 
 -- a device that is not the one between these does not talk
 apart : (xs ys bs cs : List DeviceState) (d t : DeviceState) → xs ++ d ∷ ys ≡ bs ++ t ∷ cs → length xs ≢ length bs → AllSilent bs → AllSilent cs → d.roles.talks ≡ false
-apart [] ys [] cs d t same other silent behind = absurd (other refl)
-apart [] ys (b ∷ bs) cs d t same other silent behind = ap (λ (d : DeviceState). d.roles.talks) (head_same d b ys (bs ++ t ∷ cs) same) ∙ silent.0
-apart (x ∷ xs) ys [] cs d t same other silent behind = at xs (subst AllSilent (sym (tail_same x t (xs ++ d ∷ ys) cs same)) behind)
+apart [] ys [] cs d t same other silent after = absurd (other refl)
+apart [] ys (b ∷ bs) cs d t same other silent after = ap (λ (d : DeviceState). d.roles.talks) (head_same d b ys (bs ++ t ∷ cs) same) ∙ silent.0
+apart (x ∷ xs) ys [] cs d t same other silent after = at xs (subst AllSilent (sym (tail_same x t (xs ++ d ∷ ys) cs same)) after)
   where
     at : (xs : List DeviceState) → AllSilent (xs ++ d ∷ ys) → d.roles.talks ≡ false
     at [] all = all.0
     at (x ∷ xs) all = at xs all.1
-apart (x ∷ xs) ys (b ∷ bs) cs d t same other silent behind = apart xs ys bs cs d t (tail_same x b (xs ++ d ∷ ys) (bs ++ t ∷ cs) same) (λ e. other (ap suc e)) silent.1 behind
+apart (x ∷ xs) ys (b ∷ bs) cs d t same other silent after = apart xs ys bs cs d t (tail_same x b (xs ++ d ∷ ys) (bs ++ t ∷ cs) same) (λ e. other (ap suc e)) silent.1 after
 
--- where another device talks the drive sends nothing
+-- if another device talks the drive sends nothing
 pub other_silent : {M : Type 0} (m : RingView M) (p : ℕ) (own : Option OwnFrame) → IsTalking p own (devices_of m) → p ≢ drive_party m → IsMildFor start.Status m.drive.state → m.drive.state.interface.own ≡ None
 other_silent m p own talking other mild = by m.drive.state.interface.own refl
   where
     mute : m.drive.state.interface.roles.talks ≡ false
     mute =
-        apart m.before m.after talking.before talking.behind (device_of m.drive.state) talking.talker talking.devices_are
-        (λ same. other (talking.party ∙ ap (λ n. n + 1) (sym same))) talking.silent talking.silent_behind
+        apart m.before m.after talking.before talking.after (device_of m.drive.state) talking.talker talking.devices_are
+        (λ same. other (talking.party ∙ ap (λ n. n + 1) (sym same))) talking.silent talking.silent_after
 
     by : (own : Option OwnFrame) → m.drive.state.interface.own ≡ own → m.drive.state.interface.own ≡ None
     by None is = is
@@ -75,7 +75,7 @@ other_silent m p own talking other mild = by m.drive.state.interface.own refl
         let clash : false ≡ true = sym mute ∙ sends.2 in
         cc
 
--- and so where no device does
+-- and so if no device does
 pub calm_silent : {M : Type 0} (m : RingView M) → Each IsCalm 1 (devices_of m) → m.drive.state.interface.own ≡ None
 calm_silent m calm = at 1 m.before calm
   where
@@ -89,11 +89,11 @@ or_true : (a b : Bool) → b ≡ true → (a || b) ≡ true
 or_true true b h = refl
 or_true false b h = h
 
-behind_quiet : (answer : Answer) → is_answer 0 answer ≡ true → list_all (quiet_entry start.Status) (behind_start answer) ≡ true
-behind_quiet NotTaken legal = refl
-behind_quiet (ToItsEnd p ds) legal =
+after_quiet : (answer : Answer) → is_answer 0 answer ≡ true → list_all (quiet_entry start.Status) (after_start answer) ≡ true
+after_quiet NotTaken legal = refl
+after_quiet (ToItsEnd p ds) legal =
     echoes_quiet start.Status p ds (entry p eto (outcome.Taken 0) ∷ []) (and_parts _ (list_all is_echo ds) (and_parts (not (p == 0)) _ legal).1).1 refl
-behind_quiet (Stopped p ds last) legal =
+after_quiet (Stopped p ds last) legal =
     let echoes = and_parts (list_all is_echo ds) (is_echo last) (and_parts (not (p == 0)) (list_all is_echo ds && is_echo last) legal).1 in
     echoes_quiet start.Status p ds _ echoes.0 (and_from (quiet_frame start.Status last.sent) true (echo_quiet start.Status last echoes.1) refl)
 
@@ -108,7 +108,7 @@ module _ {M : Type 0} (view : M → MediumView) where
       let k = length (devices_of m) in
       quiet_left broke.adds.came broke.adds.answers m.drive n.drive (cut_quiet start.Status k (drive_party m) broke.standing es broke.adds.came quiet (broke.brought here)) mild broke.adds.drive
 
-  pub not_begun_left : (m n : RingView M) → NotBegun view sst m n → IsMildFor start.Status m.drive.state → StaysMildFor start.Status view m.drive n.drive
+  pub not_begun_left : (m n : RingView M) → BeginBroken view sst m n → IsMildFor start.Status m.drive.state → StaysMildFor start.Status view m.drive n.drive
   not_begun_left m n not mild = elim not [
     | StartLost broke unheard ↦ broke_left m n _ broke refl refl mild
     | FirstLost p d echo talked broke far unheard ↦
@@ -120,15 +120,15 @@ module _ {M : Type 0} (view : M → MediumView) where
         (cases_lt p (drive_party m))
   ]
 
-  pub not_took_left : (m : RingView M) (h : IsHolding m) (w : ℕ) (n : RingView M) → NotTook view m h w n → IsMildFor start.Status m.drive.state → StaysMildFor start.Status view m.drive n.drive
+  pub not_took_left : (m : RingView M) (h : IsHolding m) (w : ℕ) (n : RingView M) → TakesBroken view m h w n → IsMildFor start.Status m.drive.state → StaysMildFor start.Status view m.drive n.drive
   not_took_left m h w n not mild =
       let adds = not.added.adds in
       quiet_left adds.came adds.answers m.drive n.drive
       (⊎_elim (λ less. spoken_quiet start.Status adds.came (not.added.far less))
-      (λ on. cut_quiet start.Status (length (devices_of m)) (drive_party m) not.standing (behind_start not.answer) adds.came (behind_quiet not.answer not.legal) (not.added.near on))
+      (λ on. cut_quiet start.Status (length (devices_of m)) (drive_party m) not.standing (after_start not.answer) adds.came (after_quiet not.answer not.legal) (not.added.near on))
       (cases_lt h.flight.source (drive_party m))) mild adds.drive
 
-  pub severed_left : (m : RingView M) (h : IsHolding m) (n : RingView M) → Severed view m h n → IsMildFor start.Status m.drive.state → StaysMildFor start.Status view m.drive n.drive
+  pub severed_left : (m : RingView M) (h : IsHolding m) (n : RingView M) → RelayBroken view m h n → IsMildFor start.Status m.drive.state → StaysMildFor start.Status view m.drive n.drive
   severed_left m h n off mild =
       let adds = off.added.adds in
       let p = h.flight.source in
@@ -162,7 +162,7 @@ hit_keeps (Some (Alter change)) f at came = by (is_data f.now && not f.altered) 
 
 -- ---- at every moment
 
--- what a pass leaves of it, and what is kept where a frame stands at the host then
+-- what a pass leaves of it, and what is kept if a frame is at the host then
 pub record DriveWent {M : Type 0} (view : M → MediumView) (before : DriveView M) (base : List Entry) (r s : RingView M) : Type 0 where
   pub left : StaysMildFor start.Status view r.drive s.drive
   pub on : (f : Flight) → s.books.lent ≡ Some f → DriveMild before base s
@@ -175,20 +175,20 @@ left_twice old mid new (inr none) (inl same) = inr (same ∙ none)
 pub left_so : {M : Type 0} (view : M → MediumView) (before : DriveView M) (base : List Entry) (r : RingView M) (w : DriveView M) → DriveSo before base r → StaysMildFor start.Status view r.drive w → DriveLeft before w
 left_so view before base r w so stays = record {
   medium = stays.medium ∙ so.medium;
-  status = left_twice (status_of before.state) (status_of r.drive.state) (status_of w.state) (tells_left (status_of before.state) (told_by (length (devices_of r)) (drive_party r) so.entries) (status_of r.drive.state) so.told) stays.status;
+  status = left_twice (status_of before.state) (status_of r.drive.state) (status_of w.state) (tells_left (status_of before.state) (reported_by (length (devices_of r)) (drive_party r) so.entries) (status_of r.drive.state) so.told) stays.status;
 }
 
 pub left_stays : {M : Type 0} (view : M → MediumView) (v w : DriveView M) → StaysSo v w → StaysMildFor start.Status view v w
 left_stays view v w stays = record { status = inl stays.status; medium = stays.medium; mild = stays.mild }
 
--- where the drive's byte is under way
+-- if the drive's byte is under way
 abbrev pub TellsOnWay : {M : Type 0} → RingView M → Type 0
 TellsOnWay s = (f : Flight) → (s.books.kept ≡ Some f) ⊎ (s.books.lent ≡ Some f) → f.source ≡ drive_party s → byte_of f.sent ≡ status_byte_of (status_of s.drive.state)
 
 module _ {M : Type 0} (before : DriveView M) (base : List Entry) (r s : RingView M) (old : DriveMild before base r) (many : length (devices_of s) ≡ length (devices_of r)) (party : drive_party s ≡ drive_party r) where
-  -- behind these entries more
+  -- after these entries more
   pub goes_so : (e : List Entry) → s.books.log ≡ r.books.log ++ e → s.drive.medium ≡ r.drive.medium → IsMildFor start.Status s.drive.state → s.drive.state.interface.roles.listens ≡ false
-      → ToldStatus (status_of before.state) (told_by (length (devices_of r)) (drive_party r) (old.so.entries ++ e)) (status_of s.drive.state) → TellsOnWay s → DriveMild before base s
+      → ReportsStatus (status_of before.state) (reported_by (length (devices_of r)) (drive_party r) (old.so.entries ++ e)) (status_of s.drive.state) → TellsOnWay s → DriveMild before base s
   goes_so e log medium mild deaf told way = record {
     so = record {
       entries = old.so.entries ++ e;
@@ -196,25 +196,25 @@ module _ {M : Type 0} (before : DriveView M) (base : List Entry) (r s : RingView
       deaf = deaf;
       medium = medium ∙ old.so.medium;
       told =
-          subst (λ k. ToldStatus (status_of before.state) (told_by k (drive_party s) (old.so.entries ++ e)) (status_of s.drive.state)) (sym many)
-          (subst (λ q. ToldStatus (status_of before.state) (told_by (length (devices_of r)) q (old.so.entries ++ e)) (status_of s.drive.state)) (sym party) told);
+          subst (λ k. ReportsStatus (status_of before.state) (reported_by k (drive_party s) (old.so.entries ++ e)) (status_of s.drive.state)) (sym many)
+          (subst (λ q. ReportsStatus (status_of before.state) (reported_by (length (devices_of r)) q (old.so.entries ++ e)) (status_of s.drive.state)) (sym party) told);
       under_way = way;
     };
     mild = mild;
   }
 
-  -- where they told nothing of the drive
-  pub stays_so : (e : List Entry) → s.books.log ≡ r.books.log ++ e → StaysSo r.drive s.drive → told_by (length (devices_of r)) (drive_party r) (old.so.entries ++ e) ≡ told_by (length (devices_of r)) (drive_party r) old.so.entries → TellsOnWay s → DriveMild before base s
+  -- if they reported nothing of the drive
+  pub stays_so : (e : List Entry) → s.books.log ≡ r.books.log ++ e → StaysSo r.drive s.drive → reported_by (length (devices_of r)) (drive_party r) (old.so.entries ++ e) ≡ reported_by (length (devices_of r)) (drive_party r) old.so.entries → TellsOnWay s → DriveMild before base s
   stays_so e log stays same way =
       goes_so e log stays.medium stays.mild (stays.deaf old.so.deaf)
-      (subst (λ bytes. ToldStatus (status_of before.state) bytes (status_of s.drive.state)) (sym same) (subst (ToldStatus (status_of before.state) (told_by (length (devices_of r)) (drive_party r) old.so.entries)) (sym stays.status) old.so.told)) way
+      (subst (λ bytes. ReportsStatus (status_of before.state) bytes (status_of s.drive.state)) (sym same) (subst (ReportsStatus (status_of before.state) (reported_by (length (devices_of r)) (drive_party r) old.so.entries)) (sym stays.status) old.so.told)) way
 
--- a frame of the second controller stands at the host, and nothing is kept
+-- a frame of the second controller is at the host, and nothing is kept
 pub own_way : {M : Type 0} (s : RingView M) (f : Flight) → s.books.kept ≡ None → s.books.lent ≡ Some f → f.source ≢ drive_party s → TellsOnWay s
 own_way s f none lent other g (inl kept) mine = let clash = sym none ∙ kept in cc
 own_way s f none lent other g (inr stands) mine = absurd (other (ap (λ (o : Option Flight). elim o [ Some h ↦ h.source | None ↦ f.source ]) (sym lent ∙ stands) ∙ mine))
 
--- the frame that went out stands there
+-- the frame that went out is there
 pub stands_out : {M : Type 0} (r s : RingView M) (e : List Entry) (out : Flight) (kept : Option Flight) (answer : Arrival) → GoesOut (going_on r) e out kept answer s → (f : Flight) → s.books.lent ≡ Some f
     → (s.books.log ≡ r.books.log ++ e) × (s.books.kept ≡ kept) × (f.source ≡ out.source) × (f.sent ≡ out.sent)
 stands_out r s e out kept answer goes f lent = ⊎_elim

@@ -18,11 +18,11 @@ use Rattle.il_guest.specs.Steps.{IsControl, IsRoundPlace, control_after, sent_at
 use Rattle.il_ring.specs.declared.plan.Arrival.{Arrival}
 use Rattle.il_ring.specs.declared.flight.Flight.{Flight}
 use Rattle.il_ring.specs.Flights.{sourced}
-use Rattle.il_ring.specs.Lending.{IsLed, going_on}
+use Rattle.il_ring.specs.Lending.{IsControlled, going_on}
 use Rattle.il_ring.specs.Outcomes.{Returned, WasLost, met_between}
 use Rattle.il_ring.specs.Rings.{RingView, devices_of}
-use Rattle.il_ring.specs.Turned.{Halves, StandsNot, goes_out, keeps_then, ring_before_last, turned, turned_entries}
-use Rattle.il_ring.proofs.LedSteps.{IsOwn}
+use Rattle.il_ring.specs.Turned.{HalvesOfRound, StandsNot, goes_out, keeps_then, ring_before_last, turned, turned_entries}
+use Rattle.il_ring.proofs.ControlledSteps.{IsOwn}
 use Rattle.il_ring.proofs.SendLaws.{plain_sent}
 use Rattle.il_control.specs.Calls.{IsFree, Obeyed, Whole, Broke, arrives}
 use Rattle.il_control.proofs.Asking.{plain_obeyed}
@@ -48,7 +48,7 @@ module _ {M : Type 0} (r : RingView M) (boxed : List DeviceState) (last : Device
   party_on zero on = omega arith
   party_on (suc q) on = let many = own_ring-length r boxed last None after in omega (arith, many, on)
 
-module _ {M : Type 0} (view : M → MediumView) (r s : RingView M) (f : Frame) (answer : Arrival) (two : Halves view (going_on r) None (sourced 0 f) answer s) where
+module _ {M : Type 0} (view : M → MediumView) (r s : RingView M) (f : Frame) (answer : Arrival) (two : HalvesOfRound view (going_on r) None (sourced 0 f) answer s) where
   abbrev k : ℕ
   k = length (devices_of r)
 
@@ -80,10 +80,10 @@ module _ {M : Type 0} (view : M → MediumView) (r s : RingView M) (f : Frame) (
     pub ends : StandsNot (going_on r) [] None (entry k f (outcome.Lost (turned k own_party)) ∷ []) two.own.crossings answer s
     pub same : two.h ≡ two.g
 
-  module _ (led : IsLed r) (kept : r.books.kept ≡ None) (p q : Place) (at : two.g.control ≡ control.Rounds p) (own : IsOwn q) (plain : is_plain (message_of f) ≡ true) (other : is_data f ≡ false) (no_ifc : is_ifc (message_of f) ≡ false)
+  module _ (controlled : IsControlled r) (kept : r.books.kept ≡ None) (p q : Place) (at : two.g.control ≡ control.Rounds p) (own : IsOwn q) (plain : is_plain (message_of f) ≡ true) (other : is_data f ≡ false) (no_ifc : is_ifc (message_of f) ≡ false)
       (next : control_after two.g.device.roles.address two.g.last p f ≡ control.Rounds q) where
     free : IsFree others
-    free = own_ring-IsFree r two.boxed two.g.device two.after led
+    free = own_ring-IsFree r two.boxed two.g.device two.after controlled
 
     lead : is_leading two.g.control ≡ true
     lead = ap is_leading at

@@ -9,7 +9,6 @@ use Rattle.il_frames.specs.declared.frame.Frame.{Frame}
 use Rattle.il_frames.specs.Frames.{framed, is_data, is_data_class}
 use Rattle.il_frames.specs.NamedFrames.{nrd, rfc}
 use Rattle.il_guest.specs.declared.control.Command.{Command}
-use Rattle.il_guest.specs.declared.control.Command.TheVariants as command
 use Rattle.il_guest.specs.declared.control.Place.{Place}
 use Rattle.il_guest.specs.declared.control.Place.TheVariants as place
 use Rattle.il_guest.specs.Frames.{sst}
@@ -23,22 +22,23 @@ use Rattle.il_ports.specs.Media.{MediumView}
 use Rattle.il_ring.specs.declared.flight.Flight.{Flight}
 use Rattle.il_ring.specs.declared.plan.Arrival.{Arrival}
 use Rattle.il_ring.specs.declared.plan.Arrival.TheVariants as arrival
-use Rattle.il_ring.specs.LedAdds.{IsUnderWay, LedAdds, LedKeeps, LedSince}
-use Rattle.il_ring.specs.Lending.{IsLed, LedRound, StandsNow, going_on}
+use Rattle.il_ring.specs.ControlledAdds.{IsUnderWay, ControlledAdds, ControlledKeeps, ControlledSince}
+use Rattle.il_ring.specs.Lending.{IsControlled, ControlledRound, StandsNow, going_on}
 use Rattle.il_ring.specs.Lists.{Each, First}
 use Rattle.il_ring.specs.Outcomes.{AllKeep, HearsNothing, IsDeaf, met_between}
 use Rattle.il_ring.specs.Polls.{KeepsPlace, is_listen_address, is_poll}
 use Rattle.il_ring.specs.Rings.{RingView, devices_of, spare_of}
-use Rattle.il_ring.proofs.LedKeeps.{led_keeps}
+use Rattle.il_ring.proofs.ControlledKeeps.{controlled_keeps}
 use Rattle.il_control.specs.Lent.{IsLentNow, KeptSince, LentBroke, LentSo, PolledUntil, PolledSoFar, base_of, last_of}
 use Rattle.il_control.specs.Polling.{BrokeOff, Polling}
 use Rattle.il_control.proofs.LentDrive.{drive_left, drive_went}
 use Rattle.il_control.proofs.LentDriveAnswers.{answers_left, answers_passes}
 use Rattle.il_ring.specs.Flights.{HasAltered}
-use Rattle.il_ring.proofs.LedAltered.{led_altered}
-use Rattle.il_control.proofs.LentMet.{breaks_met, met_since, met_until, risen_up}
+use Rattle.il_ring.proofs.ControlledAltered.{controlled_altered}
+use Rattle.il_control.proofs.LentReached.{breaks_met, met_since, met_until, risen_up}
 use Rattle.il_control.proofs.LentRounds.{Passed, goes_or_breaks}
 use Rattle.il_control.proofs.LentSums.{since_polls, under_way}
+use Rattle.il_ring.proofs.MessageKinds.{each_command}
 
 -- ---- what stays
 
@@ -59,7 +59,7 @@ places_then (d ∷ ds) (e ∷ es) [] one more = absurd more
 places_then (d ∷ ds) (e ∷ es) (f ∷ fs) one more = (more.0 ∙ one.0, places_then ds es fs one.1 more.1)
 
 -- a round more, of a frame that is neither a listen address nor a poll message
-pub kept_more : {M : Type 0} (f : Frame) (q r s : RingView M) → KeptSince q r → LedKeeps f r s → Each IsDeaf 1 (devices_of r) → is_poll (message_of f) ≡ false → KeptSince q s
+pub kept_more : {M : Type 0} (f : Frame) (q r s : RingView M) → KeptSince q r → ControlledKeeps f r s → Each IsDeaf 1 (devices_of r) → is_poll (message_of f) ≡ false → KeptSince q s
 kept_more f q r s kept keeps deaf no_poll = record {
   plan = keeps.plan ∙ kept.plan;
   begun = keeps.begun ∙ kept.begun;
@@ -70,7 +70,7 @@ kept_more f q r s kept keeps deaf no_poll = record {
   places = places_then (devices_of q) (devices_of r) (devices_of s) kept.places (keeps.places no_poll);
 }
 
-keeps_on : {M : Type 0} (f : Frame) (r s : RingView M) → LedKeeps f (going_on r) s → LedKeeps f r s
+keeps_on : {M : Type 0} (f : Frame) (r s : RingView M) → ControlledKeeps f (going_on r) s → ControlledKeeps f r s
 keeps_on f r s keeps = record {
   plan = keeps.plan;
   begun = keeps.begun;
@@ -82,7 +82,7 @@ keeps_on f r s keeps = record {
   places = keeps.places;
 }
 
--- ---- which frame stands at the host
+-- ---- which frame is at the host
 
 -- it has nobody listen, and gives no place in the poll
 pub record IsMute (f : Frame) : Type 0 where
@@ -108,16 +108,10 @@ command_mute c range =
     record { no_poll = ap is_poll says ∙ no_poll c; no_listener = ap is_listen_address says ∙ no_listener c }
   where
     no_poll : (c : Command) → is_poll (command_says c) ≡ false
-    no_poll command.Nop = refl
-    no_poll (command.Unl a) = refl
-    no_poll (command.Tad a) = refl
-    no_poll (command.Unt a) = refl
+    no_poll = each_command (λ c. is_poll (command_says c) ≡ false) refl (λ a. refl) (λ a. refl) (λ a. refl)
 
     no_listener : (c : Command) → is_listen_address (command_says c) ≡ false
-    no_listener command.Nop = refl
-    no_listener (command.Unl a) = refl
-    no_listener (command.Tad a) = refl
-    no_listener (command.Unt a) = refl
+    no_listener = each_command (λ c. is_listen_address (command_says c) ≡ false) refl (λ a. refl) (λ a. refl) (λ a. refl)
 
 module _ {M : Type 0} (view : M → MediumView) (k last : ℕ) (own : Option ℕ) (base : List Entry) (r : RingView M) (arrived : ℕ) (old : Polling view k last own base r arrived) where
   abbrev pub StandsMute : Type 0
@@ -153,24 +147,24 @@ module _ {M : Type 0} (view : M → MediumView) (a : ℕ) (q r s : RingView M) (
   abbrev own_last : ℕ
   own_last = last_of q.guest
 
-  -- while it polls a frame stands at the host
+  -- while it polls a frame is at the host
   pub lent_some : IsSome r.books.lent
   lent_some = let stands = stands_mute view k own_last (Some k) (base_of a q) r arrived so.polls in subst IsSome (sym stands.1) refl
 
-  module _ (led : IsLed r → IsLed s × StandsNow answer s.books.lent) (round : IfSome r.books.lent (λ f. LedRound view (going_on r) f answer s)) (passed : IsLed r → Passed view r answer s) (counts : IsLed r → (f : Flight) → IsUnderWay r f → LedAdds r s) where
+  module _ (controlled : IsControlled r → IsControlled s × StandsNow answer s.books.lent) (round : IfSome r.books.lent (λ f. ControlledRound view (going_on r) f answer s)) (passed : IsControlled r → Passed view r answer s) (counts : IsControlled r → (f : Flight) → IsUnderWay r f → ControlledAdds r s) where
     next : Polling view k own_last (Some k) (base_of a q) s (arrived + 1) ⊎ BrokeOff view k own_last (Some k) (base_of a q) s (arrived + 1)
-    next = goes_or_breaks view k own_last (Some k) (base_of a q) r s arrived answer so.polls (passed so.polls.led) (led so.polls.led).0
+    next = goes_or_breaks view k own_last (Some k) (base_of a q) r s arrived answer so.polls (passed so.polls.controlled) (controlled so.polls.controlled).0
 
     stood : StandsMute view k own_last (Some k) (base_of a q) r arrived so.polls
     stood = stands_mute view k own_last (Some k) (base_of a q) r arrived so.polls
 
-    keeps : LedKeeps stood.0.now r s
-    keeps = keeps_on stood.0.now r s (led_keeps view (going_on r) s stood.0 answer (subst (λ lent. IfSome lent (λ f. LedRound view (going_on r) f answer s)) stood.1 round))
+    keeps : ControlledKeeps stood.0.now r s
+    keeps = keeps_on stood.0.now r s (controlled_keeps view (going_on r) s stood.0 answer (subst (λ lent. IfSome lent (λ f. ControlledRound view (going_on r) f answer s)) stood.1 round))
 
-    adds : LedAdds r s
-    adds = let way = under_way view k own_last (Some k) (base_of a q) r arrived so.polls in counts so.polls.led way.0 way.1
+    adds : ControlledAdds r s
+    adds = let way = under_way view k own_last (Some k) (base_of a q) r arrived so.polls in counts so.polls.controlled way.0 way.1
 
-    since : LedSince 0 k q s (so.added ++ adds.counts.entries)
+    since : ControlledSince 0 k q s (so.added ++ adds.counts.entries)
     since = since_polls view k own_last (Some k) (base_of a q) 0 q r s arrived (arrived + 1) so.added so.since so.polls next adds
 
     kept : KeptSince q s
@@ -180,7 +174,7 @@ module _ {M : Type 0} (view : M → MediumView) (a : ℕ) (q r s : RingView M) (
     plan_same = so.kept.plan
 
     up : r.books.crossings ≤ s.books.crossings
-    up = risen_up adds.counts.links r.books.crossings s.books.crossings so.polls.led.crossings adds.counts.crossings
+    up = risen_up adds.counts.links r.books.crossings s.books.crossings so.polls.controlled.crossings adds.counts.crossings
 
     -- what was altered before, or now
     met_now : (HasAltered r.books.lent ⊎ HasAltered r.books.kept) ⊎ (met_between r s ≢ []) → met_between q s ≢ []
@@ -194,13 +188,13 @@ module _ {M : Type 0} (view : M → MediumView) (a : ℕ) (q r s : RingView M) (
     altered_on way = met_now (⊎_elim
         (λ before. inl (⊎_elim (λ altered. inl (stood.0, stood.1, altered)) (λ way. inr way) before))
         (λ some. inr some)
-        (led_altered view (going_on r) s stood.0 answer (subst (λ lent. IfSome lent (λ f. LedRound view (going_on r) f answer s)) stood.1 round) so.polls.led.crossings (led so.polls.led).0.leads way))
+        (controlled_altered view (going_on r) s stood.0 answer (subst (λ lent. IfSome lent (λ f. ControlledRound view (going_on r) f answer s)) stood.1 round) so.polls.controlled.crossings (controlled so.polls.controlled).0.leads way))
 
     -- a frame came to the host
     pub pass_goes : (g : Frame) → answer ≡ arrival.Frame g → LentSo view a q s (arrived + 1)
     pass_goes g is = ⊎_elim
-        (λ polls. record { at = so.at; few_asked = so.few_asked; polls = polls; added = so.added ++ adds.counts.entries; since = since; kept = kept; deaf = keeps.deaf stood.2.no_listener so.deaf; answers = answers_passes view k own_last (Some k) (base_of a q) r s arrived answer so.polls (passed so.polls.led) (led so.polls.led).0 so.answers polls; drive = (drive_went view k own_last (Some k) (base_of a q) r s arrived answer so.polls (passed so.polls.led) (led so.polls.led).0 q.drive so.drive).on (stands_mute view k own_last (Some k) (base_of a q) s (arrived + 1) polls).0 (stands_mute view k own_last (Some k) (base_of a q) s (arrived + 1) polls).1; from = so.from; altered = altered_on })
-        (λ off. let now = subst (λ answer. StandsNow answer s.books.lent) is (led so.polls.led).1 in let clash = sym off.lent_is ∙ now.1 in cc)
+        (λ polls. record { at = so.at; few_asked = so.few_asked; polls = polls; added = so.added ++ adds.counts.entries; since = since; kept = kept; deaf = keeps.deaf stood.2.no_listener so.deaf; answers = answers_passes view k own_last (Some k) (base_of a q) r s arrived answer so.polls (passed so.polls.controlled) (controlled so.polls.controlled).0 so.answers polls; drive = (drive_went view k own_last (Some k) (base_of a q) r s arrived answer so.polls (passed so.polls.controlled) (controlled so.polls.controlled).0 q.drive so.drive).on (stands_mute view k own_last (Some k) (base_of a q) s (arrived + 1) polls).0 (stands_mute view k own_last (Some k) (base_of a q) s (arrived + 1) polls).1; from = so.from; altered = altered_on })
+        (λ off. let now = subst (λ answer. StandsNow answer s.books.lent) is (controlled so.polls.controlled).1 in let clash = sym off.lent_is ∙ now.1 in cc)
         next
 
     -- none did
@@ -208,9 +202,9 @@ module _ {M : Type 0} (view : M → MediumView) (a : ℕ) (q r s : RingView M) (
     pass_breaks limit less is = ⊎_elim
         (λ polls.
         let then_ = stands_mute view k own_last (Some k) (base_of a q) s (arrived + 1) polls in
-        let now = subst (λ answer. StandsNow answer s.books.lent) is (led so.polls.led).1 in
+        let now = subst (λ answer. StandsNow answer s.books.lent) is (controlled so.polls.controlled).1 in
         let clash = sym now ∙ then_.1 in cc)
-        (λ off. record { at = so.at; few_asked = so.few_asked; arrived = arrived + 1; few = omega (arith, less); off = off; led = (led so.polls.led).0; added = so.added ++ adds.counts.entries; since = since; kept = kept; answers = answers_left view k own_last (Some k) (base_of a q) r s arrived answer so.polls (passed so.polls.led) (led so.polls.led).0 so.answers; drive = drive_left view k own_last (Some k) (base_of a q) r s arrived answer so.polls (passed so.polls.led) (led so.polls.led).0 q.drive so.drive; met = met_now (⊎_elim (λ some. inr some) (λ way. inl way) (breaks_met view k own_last (Some k) (base_of a q) r s arrived answer so.polls (passed so.polls.led) (led so.polls.led).0 off.lent_is)) })
+        (λ off. record { at = so.at; few_asked = so.few_asked; arrived = arrived + 1; few = omega (arith, less); off = off; controlled = (controlled so.polls.controlled).0; added = so.added ++ adds.counts.entries; since = since; kept = kept; answers = answers_left view k own_last (Some k) (base_of a q) r s arrived answer so.polls (passed so.polls.controlled) (controlled so.polls.controlled).0 so.answers; drive = drive_left view k own_last (Some k) (base_of a q) r s arrived answer so.polls (passed so.polls.controlled) (controlled so.polls.controlled).0 q.drive so.drive; met = met_now (⊎_elim (λ some. inr some) (λ way. inl way) (breaks_met view k own_last (Some k) (base_of a q) r s arrived answer so.polls (passed so.polls.controlled) (controlled so.polls.controlled).0 off.lent_is)) })
         next
 
 -- ---- all passes
@@ -235,12 +229,12 @@ module _ {M : Type 0} (view : M → MediumView) (old now : RingView M) (lent : I
   pub poll_room : arrived ≤ limit → 32 + 2 * limit ≤ spare_of old → 32 ≤ spare_of now
   poll_room few room = polls_room view lent.0 lent.1 old now arrived limit lent.2 first few room
 
-  module _ (s : RingView M) (answer : Arrival) (led : IsLed now → IsLed s × StandsNow answer s.books.lent) (round : IfSome now.books.lent (λ f. LedRound view (going_on now) f answer s)) (passed : IsLed now → Passed view now answer s) (counts : IsLed now → (f : Flight) → IsUnderWay now f → LedAdds now s) where
+  module _ (s : RingView M) (answer : Arrival) (controlled : IsControlled now → IsControlled s × StandsNow answer s.books.lent) (round : IfSome now.books.lent (λ f. ControlledRound view (going_on now) f answer s)) (passed : IsControlled now → Passed view now answer s) (counts : IsControlled now → (f : Flight) → IsUnderWay now f → ControlledAdds now s) where
     pub poll_next : (g : Frame) → answer ≡ arrival.Frame g → PolledSoFar view old (arrived + 1) s
-    poll_next g is a q one = pass_goes view a q now s arrived answer (so a q one) led round passed counts g is
+    poll_next g is a q one = pass_goes view a q now s arrived answer (so a q one) controlled round passed counts g is
 
     pub poll_breaks : arrived < limit → answer ≡ arrival.Lost → PolledUntil view false old limit s
-    poll_breaks less is a q one = pass_breaks view a q now s arrived answer (so a q one) led round passed counts limit less is
+    poll_breaks less is a q one = pass_breaks view a q now s arrived answer (so a q one) controlled round passed counts limit less is
 
   -- the last has come
   pub poll_ends : arrived ≤ limit → limit ≤ arrived → PolledUntil view true old limit now

@@ -29,6 +29,7 @@ use Rattle.il_ring.proofs.PassKinds.{Any}
 use Rattle.il_control.specs.Receives.{IsCalm, IsDeaf}
 use Rattle.il_control.proofs.Asking.{each_obeys}
 use Rattle.il_control.proofs.Talking.{one_asked}
+use Rattle.il_ring.proofs.MessageKinds.{each_command}
 
 -- ---- since an address is asked
 
@@ -122,7 +123,4 @@ pub calm_ready : (ds es : List DeviceState) → First (Obeys msg.Rfc) (length ds
 calm_ready ds es took calm = each_obeys (Obeys msg.Rfc) IsCalm IsCalm (λ k d e obeys calm. (ap (λ (r : Roles). r.listens) obeys.roles ∙ calm.0, obeys.own ∙ calm.1)) 1 ds es took calm
 
 pub command_plain : (c : Command) → is_plain (command_says c) ≡ true
-command_plain command.Nop = refl
-command_plain (command.Unl a) = refl
-command_plain (command.Tad a) = refl
-command_plain (command.Unt a) = refl
+command_plain = each_command (λ c. is_plain (command_says c) ≡ true) refl (λ a. refl) (λ a. refl) (λ a. refl)

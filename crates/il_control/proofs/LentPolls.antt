@@ -1,4 +1,4 @@
--- A second controller at a place of its rounds, at every moment at which a frame stands at the host.
+-- A second controller at a place of its rounds, at every moment at which a frame is at the host.
 pub use Rattle.il_control.specs.Polling.{RoundsEndSo}
 use Rattle.std.proofs.Common.{◌≡◌, ◌≢◌, ◌∙◌, ◌≤◌, ◌<◌, ◌++◌, ◌&&◌, ◌==◌, if◌then◌else◌, not, nat_le, nat_lt, ℕ, true, false, List, [], ◌∷◌, length, take, refl, sym, ap, ap₂, arith}
 use Rattle.std.proofs.lemmas.Bool.{and_from, eq-eqb, le-leb, lt-ltb, ne_eqb}
@@ -13,18 +13,18 @@ use Rattle.il_frames.specs.NamedFrames.{entry, is_frame, nrd, rfc, unt}
 use Rattle.il_device.specs.Takes.{eto, ete}
 use Rattle.loop_model.specs.Exchanges.{Answer, Echo, Stopped, FrameLost, TalkerAltered, echoed, is_altered, is_answer, is_break, is_echo, is_end, returned}
 use Rattle.il_guest.specs.declared.control.Command.{Command}
-use Rattle.il_guest.specs.declared.control.Command.TheVariants as command
 use Rattle.il_guest.specs.Steps.{command_frame}
-use Rattle.il_ring.specs.Lends.{RoundsEnd, AtHost, BreaksOff, ByteLost, can_end, can_end_by, can_lose, end_entries, ended_after, is_end_at, is_one_status, rounds_entries, stands_behind}
+use Rattle.il_ring.specs.Lends.{RoundsEnd, AtHost, BreaksOff, ByteLost, can_end, can_end_by, can_lose, end_entries, ended_after, is_end_at, is_one_status, rounds_entries, lies_after}
 use Rattle.il_ring.specs.Remaining.{BeginRounds, asked_yet, from_byte, from_unt}
 use Rattle.il_ring.proofs.RelayRounds.{wrong_echo}
 use Rattle.il_ring.proofs.Remaining.{none_told}
+use Rattle.il_ring.proofs.MessageKinds.{each_command}
 
 -- ---- the end of rounds
 
-ended_behind : (k : ℕ) (entries : List Entry) (due : Entry) (more : List Entry) (end : RoundsEnd) → (ended_after k (entries ++ due ∷ more) (length entries) end ≡ entries ++ end_entries k due more end) × (can_end k (entries ++ due ∷ more) (length entries) end ≡ is_end_at k due more end)
-ended_behind k [] due more end = (refl, refl)
-ended_behind k (e ∷ entries) due more end = let rest = ended_behind k entries due more end in (ap (λ es. e ∷ es) rest.0, rest.1)
+ended_after_front : (k : ℕ) (entries : List Entry) (due : Entry) (more : List Entry) (end : RoundsEnd) → (ended_after k (entries ++ due ∷ more) (length entries) end ≡ entries ++ end_entries k due more end) × (can_end k (entries ++ due ∷ more) (length entries) end ≡ is_end_at k due more end)
+ended_after_front k [] due more end = (refl, refl)
+ended_after_front k (e ∷ entries) due more end = let rest = ended_after_front k entries due more end in (ap (λ es. e ∷ es) rest.0, rest.1)
 
 take_front : (entries : List Entry) (rest : List Entry) → take (length entries) (entries ++ rest) ≡ entries
 take_front [] rest = refl
@@ -34,7 +34,7 @@ take_front (e ∷ entries) rest = ap (λ es. e ∷ es) (take_front entries rest)
 pub ends_at : (k : ℕ) (asked : List ℕ) (entries tail : List Entry) (end : RoundsEnd) → (so : RoundsEndSo k asked entries tail end)
     → (ended_after k (rounds_entries k asked so.all) (length entries) end ≡ entries ++ tail) × (can_end k (rounds_entries k asked so.all) (length entries) end ≡ true) × (take (length entries) (rounds_entries k asked so.all) ≡ entries)
 ends_at k asked entries tail end so =
-    let at = ended_behind k entries so.due so.more end in (
+    let at = ended_after_front k entries so.due so.more end in (
       ap (λ es. ended_after k es (length entries) end) so.rounds ∙ at.0 ∙ ap (λ es. entries ++ es) (sym so.tail_is),
       ap (λ es. can_end k es (length entries) end) so.rounds ∙ at.1 ∙ so.legal,
       ap (take (length entries)) so.rounds ∙ take_front entries (so.due ∷ so.more),
@@ -55,10 +55,7 @@ data_no_nrd f is = by f.class f.byte is
     by class.Isr byte is = cc
 
 pub command_no_nrd : (c : Command) → is_frame (command_frame c) nrd ≡ false
-command_no_nrd command.Nop = refl
-command_no_nrd (command.Unl a) = refl
-command_no_nrd (command.Tad a) = refl
-command_no_nrd (command.Unt a) = refl
+command_no_nrd = each_command (λ c. is_frame (command_frame c) nrd ≡ false) refl (λ a. refl) (λ a. refl) (λ a. refl)
 
 same_self : (f : Frame) → same_but_service f f ≡ true
 same_self f = and_from _ _ (eq-eqb _ _ refl) (eq-eqb (byte_of f) (byte_of f) refl)
@@ -89,7 +86,7 @@ module _ (k : ℕ) (asked : List ℕ) (entries : List Entry) where
   held_none due [] rest other = refl
   held_none due (next ∷ more) rest other = ap (λ b. (elim b [ true ↦ entry next.source next.frame (outcome.Taken k) ∷ [] | false ↦ [] ]) ++ entry due.source due.frame (outcome.Taken 0) ∷ []) other
 
-  -- so it stands at the host, or is lost before party p
+  -- so it is at the host, or is lost before party p
   pub own_stands : (yet : List ℕ) (goes : List Answer → List (List Answer) → List Entry) (f : Frame) (more : List Entry) → BeginRounds k asked entries yet goes → goes [] [] ≡ returned k f ∷ more → is_frame f nrd ≡ false → RoundsEndSo k asked entries (entry k f (outcome.Taken 0) ∷ []) AtHost
   own_stands yet goes f more begun same other = own_due yet goes f more begun same other AtHost (entry k f (outcome.Taken 0) ∷ []) (sym (held_none (returned k f) more [] other)) refl
 
@@ -99,11 +96,11 @@ module _ (k : ℕ) (asked : List ℕ) (entries : List Entry) where
 
   -- a frame of its own can be lost before any party
   own_loses : (f : Frame) (p : ℕ) → p ≤ k → can_lose k (returned k f) p ≡ true
-  own_loses f p on = ap (λ own. if own then nat_le p k else (if is_data f then nat_le p k else stands_behind k k p)) (eq-eqb k k refl) ∙ le-leb p k on
+  own_loses f p on = ap (λ own. if own then nat_le p k else (if is_data f then nat_le p k else lies_after k k p)) (eq-eqb k k refl) ∙ le-leb p k on
 
-  -- and one of a device behind that device
-  behind : (q p : ℕ) → q < p → p ≤ k → stands_behind k q p ≡ true
-  behind q p far on = and_from (nat_lt q p) (nat_le p k) (lt-ltb q p far) (le-leb p k on)
+  -- and one of a device after that device
+  after : (q p : ℕ) → q < p → p ≤ k → lies_after k q p ≡ true
+  after q p far on = and_from (nat_lt q p) (nat_le p k) (lt-ltb q p far) (le-leb p k on)
 
   pub own_lost : (yet : List ℕ) (goes : List Answer → List (List Answer) → List Entry) (f : Frame) (more : List Entry) (p : ℕ) → p ≤ k → BeginRounds k asked entries yet goes → goes [] [] ≡ returned k f ∷ more → is_frame f nrd ≡ false → RoundsEndSo k asked entries (entry k f (outcome.Lost p) ∷ []) (BreaksOff (FrameLost p))
   own_lost yet goes f more p on begun same other = own_due yet goes f more begun same other (BreaksOff (FrameLost p)) (entry k f (outcome.Lost p) ∷ []) (sym (broken_none (returned k f) more p other)) (own_loses f p on)
@@ -122,7 +119,7 @@ module _ (k : ℕ) (asked : List ℕ) (entries : List Entry) where
     nrd_lost p on = nrd_due (BreaksOff (FrameLost p)) (entry q d.sent (outcome.Taken k) ∷ entry k nrd (outcome.Lost p) ∷ []) refl (own_loses nrd p on)
 
     pub first_lost : (p : ℕ) → q < p → p ≤ k → RoundsEndSo k asked entries (entry q d.sent (outcome.Lost p) ∷ []) (ByteLost p)
-    first_lost p far on = nrd_due (ByteLost p) (entry q d.sent (outcome.Lost p) ∷ []) refl (behind q p far on)
+    first_lost p far on = nrd_due (ByteLost p) (entry q d.sent (outcome.Lost p) ∷ []) refl (after q p far on)
 
   -- the byte is due
   module _ (more : List ℕ) (q : ℕ) (d : Echo) (begun : BeginRounds k asked entries more (from_byte k asked more q d)) (bytes : is_data d.sent ≡ true) where
@@ -139,7 +136,7 @@ module _ (k : ℕ) (asked : List ℕ) (entries : List Entry) where
 
     pub byte_lost_at : (p : ℕ) → (q == k) ≡ false → p ≤ q → RoundsEndSo k asked entries (entry q d.sent (outcome.Lost p) ∷ []) (BreaksOff (FrameLost p))
     byte_lost_at p no_guest low = byte_due (BreaksOff (FrameLost p)) (entry q d.sent (outcome.Lost p) ∷ []) (sym (broken_none (echoed q d) after_byte p (data_no_nrd d.sent bytes)))
-        (ap₂ (λ own data_frame. if own then nat_le p k else (if data_frame then nat_le p q else stands_behind k q p)) no_guest bytes ∙ le-leb p q low)
+        (ap₂ (λ own data_frame. if own then nat_le p k else (if data_frame then nat_le p q else lies_after k q p)) no_guest bytes ∙ le-leb p q low)
 
     -- it came back as another frame, and its source ended by ETE, which came to party k or was lost
     pub byte_altered : (back : Frame) → byte_of back ≢ byte_of d.sent → (q == k) ≡ false → (o : Outcome) → is_end k o ≡ true → can_end_by k q o ≡ true → RoundsEndSo k asked entries (entry q d.sent (outcome.Back back) ∷ entry q ete o ∷ []) (BreaksOff (TalkerAltered back o))
@@ -154,4 +151,4 @@ module _ (k : ℕ) (asked : List ℕ) (entries : List Entry) where
   pub end_lost : (more : List ℕ) (q : ℕ) (p : ℕ) → (q == k) ≡ false → q < p → p ≤ k → BeginRounds k asked entries more (λ now later. entry q eto (outcome.Taken k) ∷ from_unt k asked more now later) → RoundsEndSo k asked entries (entry q eto (outcome.Lost p) ∷ []) (BreaksOff (FrameLost p))
   end_lost more q p no_guest far on begun =
       let all = begun [] [] (none_told k more) (refl, refl) in
-      record { all = all.0; rounds_are = all.1; due = entry q eto (outcome.Taken k); more = from_unt k asked more [] []; rounds = all.2; tail_is = refl; legal = ap (λ own. if own then nat_le p k else stands_behind k q p) no_guest ∙ behind q p far on }
+      record { all = all.0; rounds_are = all.1; due = entry q eto (outcome.Taken k); more = from_unt k asked more [] []; rounds = all.2; tail_is = refl; legal = ap (λ own. if own then nat_le p k else lies_after k q p) no_guest ∙ after q p far on }

@@ -7,26 +7,26 @@ use Rattle.il_drive.specs.State.{device_of}
 use Rattle.il_ring.specs.declared.flight.Flight.{Flight}
 use Rattle.il_ring.specs.Books.{IsHeld}
 use Rattle.il_ring.specs.Fates.{HoldsByPlan, IsByPlan}
-use Rattle.il_ring.specs.Lending.{IsLed, going_on}
+use Rattle.il_ring.specs.Lending.{IsControlled, going_on}
 use Rattle.il_ring.specs.Rings.{RingView, IsRing, devices_of}
 use Rattle.il_control.specs.Calls.{IsFree}
 
-pub own_ring-IsRing : {M : Type 0} (r : RingView M) (boxed : List DeviceState) (last : DeviceState) (held : Option Flight) → r.after ≡ boxed ++ last ∷ [] → IsLed r → IsHeld held → HoldsByPlan r.books.plan r.books.begun r.books.crossings held → IsRing (own_ring boxed held (going_on r))
-own_ring-IsRing r boxed last held after led is way = record {
+pub own_ring-IsRing : {M : Type 0} (r : RingView M) (boxed : List DeviceState) (last : DeviceState) (held : Option Flight) → r.after ≡ boxed ++ last ∷ [] → IsControlled r → IsHeld held → HoldsByPlan r.books.plan r.books.begun r.books.crossings held → IsRing (own_ring boxed held (going_on r))
+own_ring-IsRing r boxed last held after controlled is way = record {
   few =
       let many = ap length after ∙ length-append boxed (last ∷ []) in
-      omega (arith, many, led.few);
-  plan = led.plan;
-  crossings = led.crossings;
+      omega (arith, many, controlled.few);
+  plan = controlled.plan;
+  crossings = controlled.crossings;
   held = is;
-  drive = led.drive;
+  drive = controlled.drive;
   lent = refl;
   kept = refl;
-  told = record { begun = led.told.begun; entries = All-nil (IsByPlan r.books.plan r.books.begun r.books.crossings); held = way; lent = tt; kept = tt };
+  told = record { begun = controlled.told.begun; entries = All-nil (IsByPlan r.books.plan r.books.begun r.books.crossings); held = way; lent = tt; kept = tt };
 }
 
-pub own_ring-IsFree : {M : Type 0} (r : RingView M) (boxed : List DeviceState) (last : DeviceState) → r.after ≡ boxed ++ last ∷ [] → IsLed r → IsFree (own_ring boxed None (going_on r))
-own_ring-IsFree r boxed last after led = record { ring = own_ring-IsRing r boxed last None after led tt tt; held = refl }
+pub own_ring-IsFree : {M : Type 0} (r : RingView M) (boxed : List DeviceState) (last : DeviceState) → r.after ≡ boxed ++ last ∷ [] → IsControlled r → IsFree (own_ring boxed None (going_on r))
+own_ring-IsFree r boxed last after controlled = record { ring = own_ring-IsRing r boxed last None after controlled tt tt; held = refl }
 
 -- its devices are one fewer
 pub own_ring-length : {M : Type 0} (r : RingView M) (boxed : List DeviceState) (last : DeviceState) (held : Option Flight) → r.after ≡ boxed ++ last ∷ [] → length (devices_of r) ≡ length (devices_of (own_ring boxed held (going_on r))) + 1

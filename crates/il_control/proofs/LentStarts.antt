@@ -22,16 +22,16 @@ use Rattle.il_ring.specs.declared.plan.Arrival.TheVariants as arrival
 use Rattle.il_ring.specs.declared.flight.Flight.{Flight}
 use Rattle.il_ring.specs.Books.{BooksView}
 use Rattle.il_ring.specs.Flights.{sourced}
-use Rattle.il_ring.specs.Lending.{IsLed, books_led, going_on, led_home}
+use Rattle.il_ring.specs.Lending.{IsControlled, books_controlled, going_on, controlled_home}
 use Rattle.il_ring.specs.Lists.{Each, NoneSends}
 use Rattle.il_ring.specs.Outcomes.{StartReturned, StartGone, StartTaken, IsLostNow, IsTalking, met_between}
 use Rattle.il_ring.specs.Rings.{RingView, comes, devices_of, roles_of}
-use Rattle.il_ring.specs.Turned.{Halves, SomeCame, StandsNot, books_anew, goes_out, keeps_then, turned, turned_entries, turned_flight}
+use Rattle.il_ring.specs.Turned.{HalvesOfRound, SomeCame, StandsNot, books_anew, goes_out, keeps_then, turned, turned_entries, turned_flight}
 use Rattle.il_ring.proofs.Handing.{data_no_ifc}
 use Rattle.il_ring.proofs.PassSteps.{goes_home, past_held}
 use Rattle.il_ring.proofs.SendLaws.{start_sent}
 use Rattle.il_control.specs.Calls.{IsFree, Whole}
-use Rattle.il_control.specs.Receives.{Began, IsCalm, NotBegun, own_frames}
+use Rattle.il_control.specs.Receives.{BeginWhole, IsCalm, BeginBroken, own_frames}
 use Rattle.il_control.proofs.Beginning.{StartEnd, ItPassed, ItBegan, ItFailed, start_call}
 use Rattle.il_control.proofs.LentMoves.{others, others_then, party_on, party_some}
 use Rattle.il_control.proofs.LentRings.{own_ring-IsFree}
@@ -47,7 +47,7 @@ held_is_data b at flight true is_bytes none is = let clash = sym none ∙ is in 
 held_is_data b at flight false true none is = (refl, refl, ap (λ o. elim o [ Some f ↦ f | None ↦ at ]) is)
 held_is_data b at flight false false none is = let clash = is in cc
 
-module _ {M : Type 0} (view : M → MediumView) (r s : RingView M) (answer : Arrival) (two : Halves view (going_on r) None (sourced 0 sst) answer s) where
+module _ {M : Type 0} (view : M → MediumView) (r s : RingView M) (answer : Arrival) (two : HalvesOfRound view (going_on r) None (sourced 0 sst) answer s) where
   abbrev k : ℕ
   k = length (devices_of r)
 
@@ -59,7 +59,7 @@ module _ {M : Type 0} (view : M → MediumView) (r s : RingView M) (answer : Arr
 
   -- a device took it, and its status is held by the second controller, which sends NRD
   pub record StatusHeld (a : ℕ) : Type 0 where
-    pub began : Began view sst rest rest_then
+    pub began : BeginWhole view sst rest rest_then
     pub control : two.h.control ≡ control.Rounds (place.Held a began.now.flight.now)
     pub last : two.h.last ≡ two.g.last
     pub address : two.h.device.roles.address ≡ two.g.device.roles.address
@@ -77,7 +77,7 @@ module _ {M : Type 0} (view : M → MediumView) (r s : RingView M) (answer : Arr
     pub some : 1 ≤ turned k own_party
     pub on_ring : turned k own_party ≤ k
     pub ahead : (own_party ≡ 0) ⊎ (taker < own_party)
-    pub failed : NotBegun view sst rest rest_then
+    pub failed : BeginBroken view sst rest rest_then
     pub met_some : met_between rest rest_then ≢ []
     pub own_log : two.own.log ≡ entry 0 sst (outcome.Taken taker) ∷ entry taker sent (outcome.Lost own_party) ∷ []
     pub ends : StandsNot (going_on r) (entry k sst (outcome.Taken taker) ∷ []) None (entry taker sent (outcome.Lost (turned k own_party)) ∷ []) two.own.crossings answer s
@@ -88,7 +88,7 @@ module _ {M : Type 0} (view : M → MediumView) (r s : RingView M) (answer : Arr
     pub own_party : ℕ
     pub some : 1 ≤ turned k own_party
     pub on_ring : turned k own_party ≤ k
-    pub failed : NotBegun view sst rest rest_then
+    pub failed : BeginBroken view sst rest rest_then
     pub met_some : met_between rest rest_then ≢ []
     pub own_log : two.own.log ≡ entry 0 sst (outcome.Lost own_party) ∷ []
     pub ends : StandsNot (going_on r) [] None (entry k sst (outcome.Lost (turned k own_party)) ∷ []) two.own.crossings answer s
@@ -108,9 +108,9 @@ module _ {M : Type 0} (view : M → MediumView) (r s : RingView M) (answer : Arr
   turned_some zero some = let no : ⊥ = omega (arith, some) in absurd no
   turned_some (suc p) some = refl
 
-  module _ (led : IsLed r) (kept : r.books.kept ≡ None) (a : ℕ) (at : two.g.control ≡ control.Rounds (place.Start a)) (calm : Each IsCalm 1 (devices_of rest)) (one : is_at_most_one (talkers (roles_of (devices_of rest))) ≡ true) where
+  module _ (controlled : IsControlled r) (kept : r.books.kept ≡ None) (a : ℕ) (at : two.g.control ≡ control.Rounds (place.Start a)) (calm : Each IsCalm 1 (devices_of rest)) (one : is_at_most_one (talkers (roles_of (devices_of rest))) ≡ true) where
     free : IsFree rest
-    free = own_ring-IsFree r two.boxed two.g.device two.after led
+    free = own_ring-IsFree r two.boxed two.g.device two.after controlled
 
     lead : is_leading two.g.control ≡ true
     lead = ap is_leading at
@@ -145,7 +145,7 @@ module _ {M : Type 0} (view : M → MediumView) (r s : RingView M) (answer : Arr
           | ItFailed lost not ↦ (let clash = sym lost ∙ back.returned.answer_is in cc)
         ]
 
-    failed_of : two.arrives ≡ arrival.Lost → NotBegun view sst rest rest_then
+    failed_of : two.arrives ≡ arrival.Lost → BeginBroken view sst rest rest_then
     failed_of lost = elim end [
       | ItPassed g is none whole said nameless unheard ↦ (let clash = sym lost ∙ is in cc)
       | ItBegan g is flight held began ↦ (let clash = sym lost ∙ is in cc)
@@ -191,8 +191,8 @@ module _ {M : Type 0} (view : M → MediumView) (r s : RingView M) (answer : Arr
         }
 
     -- its status came
-    module _ (g : Frame) (is_g : two.arrives ≡ arrival.Frame g) (flight : Flight) (stands : two.own.held ≡ Some flight) (began : Began view sst rest rest_then) where
-      some : SomeCame k r.books.log r.books.kept (books_anew None (going_on r).books) two.g two.h two.behind two.arrives two.own
+    module _ (g : Frame) (is_g : two.arrives ≡ arrival.Frame g) (flight : Flight) (stands : two.own.held ≡ Some flight) (began : BeginWhole view sst rest rest_then) where
+      some : SomeCame k r.books.log r.books.kept (books_anew None (going_on r).books) two.g two.h two.past_all two.arrives two.own
       some = some_came view (going_on r) s None (sourced 0 sst) answer two g is_g
 
       held_data : ((some.at.source == 0) ≡ false) × (is_data some.at.now ≡ true) × (some.at ≡ flight)
@@ -217,7 +217,7 @@ module _ {M : Type 0} (view : M → MediumView) (r s : RingView M) (answer : Arr
 
       pub held_so : StatusHeld a
       held_so =
-          let past = past_held k r.books.log r.books.kept (books_anew None (going_on r).books) two.g two.h two.behind two.arrives two.own some nrd held_data.1 held_data.0 (on_as.0 ∙ ap out_of on_as.1) in
+          let past = past_held k r.books.log r.books.kept (books_anew None (going_on r).books) two.g two.h two.past_all two.arrives two.own some nrd held_data.1 held_data.0 (on_as.0 ∙ ap out_of on_as.1) in
           let e : List Entry = entry k sst (outcome.Taken began.now.flight.source) ∷ [] in
           let taker : 1 ≤ began.now.flight.source = omega (arith, began.now.talking.party) in
           let log : turned_entries k two.own.log ≡ e = ap (turned_entries k) began.added.adds.log ∙ ap (λ p. entry k sst (outcome.Taken p) ∷ []) (turned_some began.now.flight.source taker) in
@@ -231,7 +231,7 @@ module _ {M : Type 0} (view : M → MediumView) (r s : RingView M) (answer : Arr
             out =
                 subst (λ kept. GoesOut (going_on r) e (sourced k nrd) kept answer s) keeps
                 (goes_later view (going_on r) s None (sourced 0 sst) answer two e (sourced k nrd) (Some (turned_flight k some.at)) past.0.crossings
-                (goes_home (going_on r) s answer two.behind e (Some (turned_flight k some.at)) (two.books ∙ ap (λ c. led_home (is_leading c) k (books_led (going_on r).books two.behind) two.behind.trip.flight) on_as.1) two.answer_is past.0.kept (sourced k nrd) past.0.flight
+                (goes_home (going_on r) s answer two.past_all e (Some (turned_flight k some.at)) (two.books ∙ ap (λ c. controlled_home (is_leading c) k (books_controlled (going_on r).books two.past_all) two.past_all.trip.flight) on_as.1) two.answer_is past.0.kept (sourced k nrd) past.0.flight
                 (past.0.log_is ∙ ap (λ log. r.books.log ++ log) log)));
           }
 

@@ -20,24 +20,24 @@ use Rattle.loop_model.specs.Exchanges.{Answer, NotTaken, ToItsEnd, Stopped, Exch
 use Rattle.loop_model.specs.Leading.{controller_after, handed_or_back}
 use Rattle.il_guest.specs.declared.control.Place.{Place}
 use Rattle.il_guest.specs.declared.control.Place.TheVariants as place
-use Rattle.il_guest.specs.Frames.{nop, sst}
+use Rattle.il_guest.specs.Frames.{nop}
 use Rattle.il_guest.specs.Rounds.{addresses}
-use Rattle.il_guest.specs.Steps.{command_frame}
 use Rattle.il_ring.specs.declared.flight.Flight.{Flight}
 use Rattle.il_ring.specs.Flights.{sourced}
-use Rattle.il_ring.specs.LedAdds.{IsUnderWay, LedAdds, others_of}
+use Rattle.il_ring.specs.ControlledAdds.{IsUnderWay, ControlledAdds, others_of}
 use Rattle.il_ring.specs.Lending.{going_on}
-use Rattle.il_ring.specs.Lends.{RoundsEnd, AtHost, BreaksOff, ByteLost, all_asked, end_entries, held_entries, is_one_status, rounds_asked, rounds_entries}
+use Rattle.il_ring.specs.Lends.{RoundsEnd, AtHost, BreaksOff, ByteLost, receives_of, end_entries, held_entries, is_one_status, rounds_asked, rounds_entries}
 use Rattle.il_ring.specs.Remaining.{BeginRounds, from_byte, from_command, from_ready, from_start}
 use Rattle.il_ring.specs.Rings.{RingView, devices_of}
 use Rattle.il_ring.specs.Rounded.{IsAwaited}
 use Rattle.il_ring.proofs.Remaining.{none_told}
 use Rattle.il_control.specs.Receives.{IsHolding}
+use Rattle.il_control.proofs.LentAtHost.{Holds, OtherAtHost, OwnAtHost, at_host}
 use Rattle.il_control.proofs.LentPolls.{RoundsEndSo, own_echo, own_echo-is}
 use Rattle.il_control.proofs.LentRings.{own_ring}
-use Rattle.il_ring.proofs.LedSums.{others_are}
-use Rattle.il_ring.proofs.LedSince.{since_append, since_pass}
-use Rattle.il_ring.specs.LedAdds.{LedSince}
+use Rattle.il_ring.proofs.ControlledSums.{others_are}
+use Rattle.il_ring.proofs.ControlledSince.{since_append, since_pass}
+use Rattle.il_ring.specs.ControlledAdds.{ControlledSince}
 use Rattle.il_control.proofs.LentRounds.{turned_same}
 use Rattle.il_control.proofs.LentTelling.{within}
 use Rattle.il_control.proofs.LentWalks.{BrokeOff, Polling, StandsSo, yet_at}
@@ -70,7 +70,7 @@ module _ {M : Type 0} (view : M → MediumView) (k last : ℕ) (own : Option ℕ
   nothing_kept : r.books.kept ≡ None → (h : Flight) → r.books.kept ≡ Some h → IsAwaited 0 h (others_of r)
   nothing_kept none h is = let clash = sym none ∙ is in cc
 
-  -- a frame of its own stands at the host
+  -- a frame of its own is at the host
   own_way : (f : Frame) → r.books.lent ≡ Some (sourced k f) → ((h : Flight) → r.books.kept ≡ Some h → IsAwaited 0 h (others_of r)) → UnderWay
   own_way f lent kept = (
     sourced 0 f,
@@ -82,41 +82,31 @@ module _ {M : Type 0} (view : M → MediumView) (k last : ℕ) (own : Option ℕ
     },
   )
 
-  way_at : (p : Place) → old.place ≡ p → UnderWay
-  way_at (place.Command c) at =
-      let stands = subst (λ p. StandsSo view k last own base p r old.boxed old.entries) at old.stands in
-      own_way (command_frame c) stands.2.lent_is (nothing_kept stands.2.kept_is)
-  way_at (place.Ready c) at =
-      let stands = subst (λ p. StandsSo view k last own base p r old.boxed old.entries) at old.stands in
-      own_way rfc stands.2.lent_is (nothing_kept stands.2.kept_is)
-  way_at (place.Start a) at =
-      let stands = subst (λ p. StandsSo view k last own base p r old.boxed old.entries) at old.stands in
-      own_way sst stands.2.lent_is (nothing_kept stands.2.kept_is)
-  way_at (place.Held a d) at =
-      let stands = subst (λ p. StandsSo view k last own base p r old.boxed old.entries) at old.stands in
-      let flight = stands.2.flight in
-      let m = own_ring old.boxed (Some flight) (going_on r) in
-      let others = others_own r old.boxed old.device (Some flight) old.after in
-      own_way nrd stands.2.lent_is
-      (λ h is. subst (λ ds. IsAwaited 0 h ds) (sym others) (held_awaits m stands.2.holding h (stands.2.holding_is ∙ some_same flight h (sym stands.2.kept_is ∙ is))))
-  way_at (place.Relayed a d) at =
-      let stands = subst (λ p. StandsSo view k last own base p r old.boxed old.entries) at old.stands in
-      let flight = stands.2.flight in
-      let m = own_ring old.boxed (Some flight) (going_on r) in
-      let others = others_own r old.boxed old.device (Some flight) old.after in
-      let on = within view k last own base r old.boxed old.device flight old.after old.many stands.2.holding stands.2.holding_is in (
-        flight,
+  -- the source of a frame that it withholds awaits it
+  awaits : (flight : Flight) → Holds view k last own base r arrived old flight → (h : Flight) → flight ≡ h → IsAwaited 0 h (others_of r)
+  awaits flight holds h same =
+      subst (λ ds. IsAwaited 0 h ds) (sym (others_own r old.boxed old.device (Some flight) old.after)) (held_awaits (own_ring old.boxed (Some flight) (going_on r)) holds.0 h (holds.1 ∙ same))
+
+  -- a frame of another is at the host
+  other_way : OtherAtHost view k last own base r arrived old → UnderWay
+  other_way other =
+      let on = within view k last own base r old.boxed old.device other.flight old.after old.many other.holds.0 other.holds.1 in (
+        other.flight,
         record {
-          stands = stands.2.lent_is ∙ ap (λ f. Some f) (sym (turned_same (length (devices_of r)) flight on.0));
+          stands = other.lent_is ∙ ap (λ f. Some f) (sym (turned_same (length (devices_of r)) other.flight on.0));
           within = omega (arith, on.1, old.many);
-          ready = inr (subst (λ ds. IsAwaited 0 flight ds) (sym others) (held_awaits m stands.2.holding flight stands.2.holding_is));
-          kept = nothing_kept stands.2.kept_is;
+          ready = inr (awaits other.flight other.holds other.flight refl);
+          kept = nothing_kept other.kept_is;
         },
       )
 
   -- at every moment of polling the frames that are under way are awaited
   pub under_way : (f : Flight) × IsUnderWay r f
-  under_way = way_at old.place refl
+  under_way = ⊎_elim
+      (λ (one : OwnAtHost view k last own base r arrived old).
+      own_way one.frame one.lent_is (⊎_elim nothing_kept (λ kept h is. awaits kept.0 kept.1 h (some_same kept.0 h (sym kept.2 ∙ is))) one.kept))
+      other_way
+      (at_host view k last own base r arrived old)
 
 -- ---- control stays
 
@@ -160,18 +150,18 @@ module _ (k : ℕ) (guest : (k == 0) ≡ false) where
       (command_theirs (tad a) ((answer_entries k (start_frame Sst) answer ++ commanded k unt) ++ more)
       (ap are_theirs (append_assoc (answer_entries k (start_frame Sst) answer) (commanded k unt) more) ∙ answer_theirs answer one (commanded k unt ++ more) (command_theirs unt more all)))
 
-  asked_theirs : (asked : List ℕ) (answers : List Answer) → list_all (is_one_status k) answers ≡ true → (more : List Exchange) → are_theirs (flat_map (entries_of k) more) ≡ true → are_theirs (flat_map (entries_of k) (all_asked asked answers ++ more)) ≡ true
+  asked_theirs : (asked : List ℕ) (answers : List Answer) → list_all (is_one_status k) answers ≡ true → (more : List Exchange) → are_theirs (flat_map (entries_of k) more) ≡ true → are_theirs (flat_map (entries_of k) (receives_of asked answers ++ more)) ≡ true
   asked_theirs [] answers ones more all = all
-  asked_theirs (a ∷ asked) [] ones more all = status_theirs a NotTaken refl (flat_map (entries_of k) (all_asked asked [] ++ more)) (asked_theirs asked [] refl more all)
+  asked_theirs (a ∷ asked) [] ones more all = status_theirs a NotTaken refl (flat_map (entries_of k) (receives_of asked [] ++ more)) (asked_theirs asked [] refl more all)
   asked_theirs (a ∷ asked) (answer ∷ answers) ones more all =
       let parts = and_parts (is_one_status k answer) (list_all (is_one_status k) answers) ones in
-      status_theirs a answer parts.0 (flat_map (entries_of k) (all_asked asked answers ++ more)) (asked_theirs asked answers parts.1 more all)
+      status_theirs a answer parts.0 (flat_map (entries_of k) (receives_of asked answers ++ more)) (asked_theirs asked answers parts.1 more all)
 
   rounds_theirs : (asked : List ℕ) (answers : List (List Answer)) → list_all (λ round. list_all (is_one_status k) round) answers ≡ true → are_theirs (rounds_entries k asked answers) ≡ true
   rounds_theirs asked [] ones = refl
   rounds_theirs asked (round ∷ answers) ones =
       let parts = and_parts (list_all (is_one_status k) round) (list_all (λ round. list_all (is_one_status k) round) answers) ones in
-      command_theirs nop (flat_map (entries_of k) (all_asked asked round ++ rounds_asked asked answers)) (asked_theirs asked round parts.0 (rounds_asked asked answers) (rounds_theirs asked answers parts.1))
+      command_theirs nop (flat_map (entries_of k) (receives_of asked round ++ rounds_asked asked answers)) (asked_theirs asked round parts.0 (rounds_asked asked answers) (rounds_theirs asked answers parts.1))
 
   -- so are those that stand, and what ends them
   begun_theirs : (asked : List ℕ) (entries : List Entry) (yet : List ℕ) (goes : List Answer → List (List Answer) → List Entry) → BeginRounds k asked entries yet goes → are_theirs entries ≡ true
@@ -212,7 +202,7 @@ module _ {M : Type 0} (view : M → MediumView) (k last : ℕ) (own : Option ℕ
       let all = length-append r.before (device_of r.drive.state ∷ r.after) in
       ne_eqb k 0 (λ e. omega (arith, e, many, all))
 
-  -- what stands in the log at every moment of polling is none of the host's
+  -- what is in the log at every moment of polling is none of the host's
   pub polling_theirs : (r : RingView M) (arrived : ℕ) (old : Polling view k last own base r arrived) → list_all (λ e. not (e.source == 0)) old.entries ≡ true
   polling_theirs r arrived old = by old.place refl
     where
@@ -238,7 +228,7 @@ module _ {M : Type 0} (view : M → MediumView) (k last : ℕ) (own : Option ℕ
           let bytes = subst (λ (f : Flight). is_data f.sent ≡ true) stands.2.holding_is stands.2.holding.data_frame in
           begun_theirs k (no_host r old.many) (addresses own last) old.entries stands.0 (from_byte k (addresses own last) stands.0 flight.source (own_echo flight.sent)) (stands.2.begun flight.sent (own_echo-is flight.sent bytes))
 
-  -- nor where the rounds broke off
+  -- nor if the rounds broke off
   pub broken_theirs : (s : RingView M) (arrived : ℕ) (off : BrokeOff view k last own base s arrived) → (k == 0) ≡ false → list_all (λ e. not (e.source == 0)) (off.entries ++ off.tail) ≡ true
   broken_theirs s arrived off guest = ends_theirs k guest (addresses own last) off.entries off.tail off.end off.ends
 
@@ -260,9 +250,9 @@ module _ {M : Type 0} (view : M → MediumView) (k last : ℕ) (own : Option ℕ
           control_stays k new parts.1
 
   -- so a pass of the rounds adds to what was added
-  pub since_polls : (c : ℕ) (q r s : RingView M) (arrived then_arrived : ℕ) (entries : List Entry) → LedSince c k q r entries → Polling view k last own base r arrived → Polling view k last own base s then_arrived ⊎ BrokeOff view k last own base s then_arrived → (adds : LedAdds r s)
-      → LedSince c k q s (entries ++ adds.counts.entries)
+  pub since_polls : (c : ℕ) (q r s : RingView M) (arrived then_arrived : ℕ) (entries : List Entry) → ControlledSince c k q r entries → Polling view k last own base r arrived → Polling view k last own base s then_arrived ⊎ BrokeOff view k last own base s then_arrived → (adds : ControlledAdds r s)
+      → ControlledSince c k q s (entries ++ adds.counts.entries)
   since_polls c q r s arrived then_arrived entries since old next adds =
       let new = adds.counts.entries in
       since_append c k k q r s entries new since
-      (subst (λ j. LedSince j j r s new) old.many (since_pass r s adds (pass_stays r s arrived then_arrived old next new adds.counts.log)))
+      (subst (λ j. ControlledSince j j r s new) old.many (since_pass r s adds (pass_stays r s arrived then_arrived old next new adds.counts.log)))

@@ -21,11 +21,11 @@ use Rattle.il_guest.specs.Frames.{nop, tct}
 use Rattle.il_ring.specs.declared.plan.Arrival.{Arrival}
 use Rattle.il_ring.specs.Flights.{hit, lost_at, sourced}
 use Rattle.il_ring.specs.Plans.{next_fault}
-use Rattle.il_ring.specs.Statuses.{told_by, ToldStatus}
+use Rattle.il_ring.specs.Statuses.{reported_by, ReportsStatus}
 use Rattle.il_ring.specs.Guests.{IsUnderHost}
 use Rattle.il_ring.specs.HandedOver.{HandedOver}
-use Rattle.il_ring.specs.LedAdds.{LedCounts, LedSince, standing}
-use Rattle.il_ring.specs.Lending.{IsLed, LedRound, entry_where, hands_over}
+use Rattle.il_ring.specs.ControlledAdds.{ControlledCounts, ControlledSince, standing}
+use Rattle.il_ring.specs.Lending.{IsControlled, ControlledRound, entry_of_kept, hands_over}
 use Rattle.il_ring.specs.Lists.{Each}
 use Rattle.il_ring.specs.Outcomes.{IsDeaf}
 use Rattle.il_ring.specs.Polls.{is_poll}
@@ -33,9 +33,9 @@ use Rattle.il_ring.specs.Rings.{RingView, devices_of, drive_party, roles_of}
 use Rattle.il_ring.specs.Turned.{StandsNot, StandsThere}
 use Rattle.il_ring.proofs.HandedCounts.{handed_counts}
 use Rattle.il_ring.proofs.EntryMeasures.{at_host}
-use Rattle.il_ring.proofs.LedKeeps.{handed_keeps}
-use Rattle.il_ring.proofs.LedSince.{none_stands, since_adds, since_append}
-use Rattle.il_ring.proofs.LedTalkers.{kept_entry}
+use Rattle.il_ring.proofs.ControlledKeeps.{handed_keeps}
+use Rattle.il_ring.proofs.ControlledSince.{none_stands, since_adds, since_append}
+use Rattle.il_ring.proofs.ControlledTalkers.{kept_entry}
 use Rattle.il_control.specs.Calls.{IsIdle}
 use Rattle.il_control.specs.Lent.{DriveLeft, DriveMild, KeptSince, LentBroke, LentSo, base_of, last_of}
 use Rattle.il_control.specs.Polling.{BrokeOff, Polling}
@@ -47,7 +47,7 @@ use Rattle.il_control.proofs.LentHanded.{handed_base, handed_polls, tct_roles}
 use Rattle.il_control.proofs.IdleDrives.{idle_silent}
 use Rattle.il_control.proofs.LentHost.{StaysDeaf, drive_handed, drive_handed_left, tad_plain, unl_whole}
 use Rattle.il_ring.specs.declared.flight.Flight.{Flight}
-use Rattle.il_control.proofs.LentMet.{met_since, out_met, risen_up}
+use Rattle.il_control.proofs.LentReached.{met_since, out_met, risen_up}
 use Rattle.il_control.proofs.LentPasses.{kept_more, stands_mute}
 use Rattle.il_control.proofs.LentWalks.{own_hit}
 
@@ -62,7 +62,7 @@ calm_deaf : (j : ℕ) (ds : List DeviceState) → Each IsCalm j ds → Each IsDe
 calm_deaf j [] calm = tt
 calm_deaf j (d ∷ ds) calm = (calm.0.0, calm_deaf (j + 1) ds calm.1)
 
-module _ {M : Type 0} (view : M → MediumView) (q r s : RingView M) (a : ℕ) (idle : IsIdle q) (some : 1 ≤ a) (low : a ≤ 30) (asked : Asked view a None q r) (answer : Arrival) (round : LedRound view r (sourced 0 tct) answer s) (hands : hands_over r tct ≡ true) (over : HandedOver r answer s) (led : IsLed s) where
+module _ {M : Type 0} (view : M → MediumView) (q r s : RingView M) (a : ℕ) (idle : IsIdle q) (some : 1 ≤ a) (low : a ≤ 30) (asked : Asked view a None q r) (answer : Arrival) (round : ControlledRound view r (sourced 0 tct) answer s) (hands : hands_over r tct ≡ true) (over : HandedOver r answer s) (controlled : IsControlled s) where
   abbrev k : ℕ
   k = length (devices_of q)
 
@@ -86,7 +86,7 @@ module _ {M : Type 0} (view : M → MediumView) (q r s : RingView M) (a : ℕ) (
   own_is : over.g.device.roles.address ≡ Some k
   own_is = handed_address view q r a idle some low asked over.boxed over.g.device over.after talks ∙ ap (λ k. Some k) size
 
-  base_is : handed_base view r s answer over led ≡ base_of a q
+  base_is : handed_base view r s answer over controlled ≡ base_of a q
   base_is =
       ap (λ log. log ++ entry 0 tct (outcome.Taken (length (devices_of r))) ∷ []) asked.whole.adds.log
       ∙ append_assoc q.books.log (receive_front 0 a None) (entry 0 tct (outcome.Taken (length (devices_of r))) ∷ [])
@@ -95,10 +95,10 @@ module _ {M : Type 0} (view : M → MediumView) (q r s : RingView M) (a : ℕ) (
   begins : Polling view k (last_of q.guest) (Some k) (base_of a q) s 1 ⊎ BrokeOff view k (last_of q.guest) (Some k) (base_of a q) s 1
   begins =
       subst (λ base. Polling view k (last_of q.guest) (Some k) base s 1 ⊎ BrokeOff view k (last_of q.guest) (Some k) base s 1) base_is
-      (subst (λ own. Polling view k (last_of q.guest) own (handed_base view r s answer over led) s 1 ⊎ BrokeOff view k (last_of q.guest) own (handed_base view r s answer over led) s 1) own_is
-      (subst (λ last. Polling view k last over.g.device.roles.address (handed_base view r s answer over led) s 1 ⊎ BrokeOff view k last over.g.device.roles.address (handed_base view r s answer over led) s 1) last_is
-      (subst (λ k. Polling view k over.g.last over.g.device.roles.address (handed_base view r s answer over led) s 1 ⊎ BrokeOff view k over.g.last over.g.device.roles.address (handed_base view r s answer over led) s 1) size
-      (handed_polls view r s answer over led
+      (subst (λ own. Polling view k (last_of q.guest) own (handed_base view r s answer over controlled) s 1 ⊎ BrokeOff view k (last_of q.guest) own (handed_base view r s answer over controlled) s 1) own_is
+      (subst (λ last. Polling view k last over.g.device.roles.address (handed_base view r s answer over controlled) s 1 ⊎ BrokeOff view k last over.g.device.roles.address (handed_base view r s answer over controlled) s 1) last_is
+      (subst (λ k. Polling view k over.g.last over.g.device.roles.address (handed_base view r s answer over controlled) s 1 ⊎ BrokeOff view k over.g.last over.g.device.roles.address (handed_base view r s answer over controlled) s 1) size
+      (handed_polls view r s answer over controlled
       (handed_silent view q r a idle some low asked over.boxed over.g.device over.after talks)
       (handed_numbered view q r a idle some low asked over.boxed over.g.device over.after talks)))))
 
@@ -107,7 +107,7 @@ module _ {M : Type 0} (view : M → MediumView) (q r s : RingView M) (a : ℕ) (
   under : IsUnderHost r.guest
   under = asked_host view q r a idle some low asked
 
-  counts : LedCounts r s
+  counts : ControlledCounts r s
   counts = handed_counts view r s answer round asked.whole.ring under hands
 
   same_roles : roles_of (devices_of s) ≡ roles_of (devices_of r)
@@ -120,15 +120,15 @@ module _ {M : Type 0} (view : M → MediumView) (q r s : RingView M) (a : ℕ) (
       ∙ ap₂ (λ rs r. rs ++ r ∷ []) (tct_roles front front_then over.obeyed).0 over.roles
       ∙ sym (map-append (λ d. d.roles) front (over.g.device ∷ [])) ∙ ap roles_of (sym all)
 
-  front_since : LedSince 0 0 q r (receive_front 0 a None)
+  front_since : ControlledSince 0 0 q r (receive_front 0 a None)
   front_since = since_adds view 0 0 q r (receive_front 0 a None) asked.whole.adds idle.free.ring.lent idle.free.ring.kept asked.whole.ring.lent asked.whole.ring.kept
       (controller_after-no_lend (receive_front 0 a None) refl) (λ rs. roles_led-no_lend rs (receive_front 0 a None) refl)
 
   not_host : (k == 0) ≡ false
   not_host = ne_eqb k 0 (λ e. omega (arith, e, k_some))
 
-  hand_since : (entries : List Entry) → counts.entries ≡ entries → controller_after 0 entries ≡ k → list_all (λ e. not (changes_roles (message_of e.frame))) (entries ++ standing k s.books) ≡ true → LedSince 0 k r s entries
-  hand_since entries are controls keep = subst (λ es. LedSince 0 k r s es) are (record {
+  hand_since : (entries : List Entry) → counts.entries ≡ entries → controller_after 0 entries ≡ k → list_all (λ e. not (changes_roles (message_of e.frame))) (entries ++ standing k s.books) ≡ true → ControlledSince 0 k r s entries
+  hand_since entries are controls keep = subst (λ es. ControlledSince 0 k r s es) are (record {
     log = counts.log;
     size = counts.size;
     controls = ap (controller_after 0) are ∙ controls;
@@ -143,7 +143,7 @@ module _ {M : Type 0} (view : M → MediumView) (q r s : RingView M) (a : ℕ) (
         same_roles ∙ here ∙ sym (keeps_all 0 before (entries ++ standing k s.books) keep) ∙ ap (roles_led 0 before) (sym all);
   })
 
-  all_since : (entries : List Entry) → LedSince 0 k r s entries → LedSince 0 k q s (receive_front 0 a None ++ entries)
+  all_since : (entries : List Entry) → ControlledSince 0 k r s entries → ControlledSince 0 k q s (receive_front 0 a None ++ entries)
   all_since entries more = since_append 0 0 k q r s (receive_front 0 a None) entries front_since more
 
   kept : KeptSince q s
@@ -167,7 +167,7 @@ module _ {M : Type 0} (view : M → MediumView) (q r s : RingView M) (a : ℕ) (
       log = at.so.log;
       deaf = at.so.deaf;
       medium = at.so.medium ∙ front_drive.medium;
-      told = subst (λ before. ToldStatus before (told_by (length (devices_of s)) (drive_party s) at.so.entries) (status_of s.drive.state)) front_drive.status at.so.told;
+      told = subst (λ before. ReportsStatus before (reported_by (length (devices_of s)) (drive_party s) at.so.entries) (status_of s.drive.state)) front_drive.status at.so.told;
       under_way = at.so.under_way;
     };
     mild = at.mild;
@@ -191,7 +191,7 @@ module _ {M : Type 0} (view : M → MediumView) (q r s : RingView M) (a : ℕ) (
           let are : counts.entries ≡ entries =
           append_cancel_left r.books.log counts.entries entries (sym counts.log ∙ at_host_now.log_is ∙ ap (λ k. r.books.log ++ entry 0 tct (outcome.Taken k) ∷ []) size) in
           let stood : standing k s.books ≡ entry k nop (outcome.Taken 0) ∷ [] =
-          ap₂ (λ kept lent. entry_where k kept ++ entry_where 0 lent) at_host_now.kept_is
+          ap₂ (λ kept lent. entry_of_kept k kept ++ entry_of_kept 0 lent) at_host_now.kept_is
           (at_host_now.lent_is ∙ ap (λ f. Some f) (own_hit (length (devices_of r)) nop (next_fault r.books.plan over.out.0) at_host_now.at refl at_host_now.came) ∙ ap (λ k. Some (sourced k nop)) size)
           ∙ ap (λ e. e ∷ []) (at_host (sourced k nop) k_some) in
           inl (record {
@@ -231,7 +231,7 @@ module _ {M : Type 0} (view : M → MediumView) (q r s : RingView M) (a : ℕ) (
             arrived = 1;
             few = some_limit;
             off = off;
-            led = led;
+            controlled = controlled;
             added = receive_front 0 a None ++ entries;
             since = all_since entries (hand_since entries are controls (ap (λ es. list_all (λ e. not (changes_roles (message_of e.frame))) (entries ++ es)) stood));
             kept = kept;

@@ -24,7 +24,7 @@ use Rattle.il_ring.specs.declared.flight.Flight.{Flight}
 use Rattle.il_ring.specs.Flights.{ended_at, sourced}
 use Rattle.il_ring.specs.Fates.{HoldsByPlan}
 use Rattle.il_ring.specs.Lends.{BreaksOff, can_end_by}
-use Rattle.il_ring.specs.Lending.{entry_where, going_on}
+use Rattle.il_ring.specs.Lending.{entry_of_kept, going_on}
 use Rattle.il_ring.specs.Outcomes.{CameBack, LostWhere, StoodSo, back_entry}
 use Rattle.il_ring.specs.Remaining.{BeginRounds, asked_yet, from_byte, from_unt}
 use Rattle.il_ring.specs.Rings.{RingView, devices_of, roles_of}
@@ -61,7 +61,7 @@ module _ {M : Type 0} (view : M → MediumView) (k last : ℕ) (own : Option ℕ
   pub within : (r : RingView M) (boxed : List DeviceState) (device : DeviceState) (flight : Flight) → r.after ≡ boxed ++ device ∷ [] → length (devices_of r) ≡ k → (h : IsHolding (own_ring boxed (Some flight) (going_on r))) → h.flight ≡ flight → (1 ≤ flight.source) × (flight.source < k)
   within r boxed device flight after many h is =
       let one = own_ring-length r boxed device (Some flight) after in
-      let all = ap length h.talking.devices_are ∙ length-append h.talking.before (h.talking.talker ∷ h.talking.behind) in
+      let all = ap length h.talking.devices_are ∙ length-append h.talking.before (h.talking.talker ∷ h.talking.after) in
       let source = ap (λ (f : Flight). f.source) is in
       (omega (arith, h.talking.party, source), omega (arith, h.talking.party, source, one, all, many))
 
@@ -103,10 +103,10 @@ module _ {M : Type 0} (view : M → MediumView) (k last : ℕ) (own : Option ℕ
           let out = subst (λ k. GoesOut (going_on r) (returned k nrd ∷ []) held_flight None answer s) old.many nrd_on.out in
           ⊎_elim
           (λ (there : StandsThere (going_on r) e held_flight None out.0 answer s).
-          let hit_at = hit_so r.books.plan out.0 held_flight there.at old.led.plan stood there.came in
-          let way = subst (HoldsByPlan s.books.plan s.books.begun s.books.crossings) there.lent_is so.led_then.told.lent in
+          let hit_at = hit_so r.books.plan out.0 held_flight there.at old.controlled.plan stood there.came in
+          let way = subst (HoldsByPlan s.books.plan s.books.begun s.books.crossings) there.lent_is so.controlled_then.told.lent in
           let flight_is : nrd_on.back.next.flight ≡ held_flight = nrd_on.back.flight_is ∙ holding.1 in
-          let again = hold_again s (holds_then view r s held_flight answer so.two) so.two.boxed_then so.two.h.device nrd_on.back.next there.at so.two.after_then so.led_then refl (hit_at.1 ∙ ap (λ (f : Flight). f.source) (sym flight_is)) (hit_at.2 ∙ ap (λ (f : Flight). f.sent) (sym flight_is)) hit_at.0 way in
+          let again = hold_again s (holds_then view r s held_flight answer so.two) so.two.boxed_then so.two.h.device nrd_on.back.next there.at so.two.after_then so.controlled_then refl (hit_at.1 ∙ ap (λ (f : Flight). f.source) (sym flight_is)) (hit_at.2 ∙ ap (λ (f : Flight). f.sent) (sym flight_is)) hit_at.0 way in
           inl (polls_on view k last own base r s arrived answer (Some held_flight) (sourced 0 nrd) old so (place.Relayed a d) e nrd_on.control nrd_on.last nrd_on.address nrd_on.range refl (omega arith) there.log_is (
             held_stands.0,
             held_stands.1,
@@ -137,7 +137,7 @@ module _ {M : Type 0} (view : M → MediumView) (k last : ℕ) (own : Option ℕ
           let tail : List Entry = entry held_flight.source held_flight.sent (outcome.Taken k) ∷ entry k nrd (outcome.Lost p) ∷ [] in
           let not = subst (λ j. StandsNot (going_on r) [] (Some held_flight) (entry j nrd (outcome.Lost (turned j off.own_party)) ∷ []) so.two.own.crossings answer s) old.many off.ends in
           let other : (held_flight.source == k) ≡ false = ne_eqb held_flight.source k (λ e. omega (arith, e, in_.1)) in
-          let kept_is : entry_where (length (devices_of (going_on r))) (Some held_flight) ++ entry k nrd (outcome.Lost p) ∷ [] ≡ tail =
+          let kept_is : entry_of_kept (length (devices_of (going_on r))) (Some held_flight) ++ entry k nrd (outcome.Lost p) ∷ [] ≡ tail =
           ap (λ j. ended_at held_flight j ∷ entry k nrd (outcome.Lost p) ∷ []) old.many ∙ ap (λ b. entry held_flight.source held_flight.sent (if b then outcome.Back held_flight.now else outcome.Taken k) ∷ entry k nrd (outcome.Lost p) ∷ []) other in
           let ends = nrd_lost k A old.entries held_stands.0 held_flight.source (own_echo held_flight.sent) (held_stands.2.begun held_flight.sent (own_echo-is held_flight.sent bytes)) p (subst (λ j. turned j off.own_party ≤ j) old.many off.on_ring) in
           inr (broke_off view k last own base r s arrived old [] tail (BreaksOff (FrameLost p)) (subst (λ es. RoundsEndSo k A es tail (BreaksOff (FrameLost p))) (sym (append-nil old.entries)) ends) refl
@@ -145,7 +145,7 @@ module _ {M : Type 0} (view : M → MediumView) (k last : ℕ) (own : Option ℕ
           (omega arith) (not.log_is ∙ ap (λ es. r.books.log ++ es) kept_is) not.lent_is)
 
       pub nrd_step : Next s arrived
-      nrd_step = ⊎_elim on gone (nrd_move view r s held_flight answer so.two old.led held_stands.2.kept_is a d (so.control_is ∙ ap (λ p. control.Rounds p) at) holding.0)
+      nrd_step = ⊎_elim on gone (nrd_move view r s held_flight answer so.two old.controlled held_stands.2.kept_is a d (so.control_is ∙ ap (λ p. control.Rounds p) at) holding.0)
 
   -- ---- the byte
 
@@ -166,7 +166,7 @@ module _ {M : Type 0} (view : M → MediumView) (k last : ℕ) (own : Option ℕ
       bytes₂ : is_data byte_flight.sent ≡ true
       bytes₂ = subst (λ (f : Flight). is_data f.sent ≡ true) holding₂.1 holding₂.0.data_frame
 
-      -- behind the right echo ETO is due
+      -- after the right echo ETO is due
       begun_eto : (back : Frame) → is_echo (record { sent = byte_flight.sent; back = back }) ≡ true
           → BeginRounds k A (old.entries ++ back_entry byte_flight back ∷ []) byte_stands.0 (λ now later. entry byte_flight.source eto (outcome.Taken k) ∷ from_unt k A byte_stands.0 now later)
       begun_eto back echo =
@@ -255,4 +255,4 @@ module _ {M : Type 0} (view : M → MediumView) (k last : ℕ) (own : Option ℕ
           altered_so off.back off.came (outcome.Taken k) (eq-eqb k k refl) refl (came_taken_ahead k byte_flight.source k ete in₂.1 (omega arith)) not.log_is not.lent_is
 
       pub byte_step : Next s arrived
-      byte_step = ⊎_elim back₂ (λ off. ⊎_elim gone₂ altered₂ off) (byte_move view r s byte_flight answer so.two old.led byte_stands.2.kept_is a d (so.control_is ∙ ap (λ p. control.Rounds p) at) holding₂.0 holding₂.1 holding₂.2)
+      byte_step = ⊎_elim back₂ (λ off. ⊎_elim gone₂ altered₂ off) (byte_move view r s byte_flight answer so.two old.controlled byte_stands.2.kept_is a d (so.control_is ∙ ap (λ p. control.Rounds p) at) holding₂.0 holding₂.1 holding₂.2)

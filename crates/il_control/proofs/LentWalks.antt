@@ -17,9 +17,9 @@ use Rattle.il_ring.specs.declared.flight.Flight.{Flight}
 use Rattle.il_ring.specs.Flights.{hit, sourced}
 use Rattle.il_ring.specs.Guests.{GuestMind, mind_of}
 use Rattle.il_ring.specs.Lends.{RoundsEnd, is_break_end}
-use Rattle.il_ring.specs.Lending.{IsLed, going_on}
+use Rattle.il_ring.specs.Lending.{IsControlled, going_on}
 use Rattle.il_ring.specs.Rings.{RingView, devices_of}
-use Rattle.il_ring.specs.Turned.{Halves}
+use Rattle.il_ring.specs.Turned.{HalvesOfRound}
 use Rattle.il_ring.proofs.Passes.{plain_hit}
 use Rattle.il_control.proofs.LentArrivals.{came_by-append}
 use Rattle.il_control.proofs.LentPolls.{RoundsEndSo}
@@ -43,25 +43,25 @@ own_hit k f (Some fault) at other came = let clash = sym (plain_hit fault (sourc
 -- ---- at every moment
 
 module _ {M : Type 0} (view : M → MediumView) (k last : ℕ) (own : Option ℕ) (base : List Entry) where
-  -- ---- behind a move
+  -- ---- after a move
 
   -- what stays as it was, whatever comes of it
   pub record Stays (r s : RingView M) (arrived : ℕ) (old : Polling view k last own base r arrived) (answer : Arrival) (held : Option Flight) (f : Flight) : Type 0 where
-    pub two : Halves view (going_on r) held f answer s
-    pub led_then : IsLed s
+    pub two : HalvesOfRound view (going_on r) held f answer s
+    pub controlled_then : IsControlled s
     pub many_then : length (devices_of s) ≡ k
     pub boxed_is : old.boxed ≡ two.boxed
     pub device_is : old.device ≡ two.g.device
     pub control_is : two.g.control ≡ control.Rounds old.place
     pub last_is : two.g.last ≡ last
 
-  pub stays : (r s : RingView M) (arrived : ℕ) (answer : Arrival) (held : Option Flight) (f : Flight) (old : Polling view k last own base r arrived) (two : Halves view (going_on r) held f answer s) → IsLed s → Stays r s arrived old answer held f
-  stays r s arrived answer held f old two led =
+  pub stays : (r s : RingView M) (arrived : ℕ) (answer : Arrival) (held : Option Flight) (f : Flight) (old : Polling view k last own base r arrived) (two : HalvesOfRound view (going_on r) held f answer s) → IsControlled s → Stays r s arrived old answer held f
+  stays r s arrived answer held f old two controlled =
       let at = snoc_same old.boxed two.boxed old.device two.g.device (sym old.after ∙ two.after) in
       let same : old.mind ≡ mind_of two.g = ap (λ o. elim o [ Some m ↦ m | None ↦ old.mind ]) (sym old.mind_is ∙ two.mind) in
       record {
         two = two;
-        led_then = led;
+        controlled_then = controlled;
         many_then =
             let before = length-append r.before (device_of r.drive.state ∷ r.after) in
             let after = length-append s.before (device_of s.drive.state ∷ s.after) in
@@ -78,7 +78,7 @@ module _ {M : Type 0} (view : M → MediumView) (k last : ℕ) (own : Option ℕ
   pub polls_on : (r s : RingView M) (arrived : ℕ) (answer : Arrival) (held : Option Flight) (f : Flight) (old : Polling view k last own base r arrived) (so : Stays r s arrived old answer held f) (q : Place) (e : List Entry) → so.two.h.control ≡ control.Rounds q → so.two.h.last ≡ so.two.g.last
       → so.two.h.device.roles.address ≡ so.two.g.device.roles.address → IsRoundPlace q → came_by k e ≡ 1 → length e ≤ 2 → s.books.log ≡ r.books.log ++ e → StandsSo view k last own base q s so.two.boxed_then (old.entries ++ e) → Polling view k last own base s (arrived + 1)
   polls_on r s arrived answer held f old so q e at same_last same_address range one short log stands = record {
-    led = so.led_then;
+    controlled = so.controlled_then;
     many = so.many_then;
     boxed = so.two.boxed_then;
     device = so.two.h.device;
@@ -97,7 +97,7 @@ module _ {M : Type 0} (view : M → MediumView) (k last : ℕ) (own : Option ℕ
     stands = stands;
   }
 
-  -- they broke off behind these entries more
+  -- they broke off after these entries more
   pub broke_off : (r s : RingView M) (arrived : ℕ) (old : Polling view k last own base r arrived) (e tail : List Entry) (end : RoundsEnd) → RoundsEndSo k (addresses own last) (old.entries ++ e) tail end → is_break_end end ≡ true → came_by k e + came_by k tail ≤ 1 → length e + length tail ≤ 3 → s.books.log ≡ r.books.log ++ (e ++ tail) → s.books.lent ≡ None → BrokeOff view k last own base s (arrived + 1)
   broke_off r s arrived old e tail end ends breaks one short log none = record {
     entries = old.entries ++ e;

@@ -1,4 +1,4 @@
--- Behind an exchange: the state, and that at most one party talked.
+-- After an exchange: the state, and that at most one party talked.
 use Rattle.std.proofs.Common.{◌≡◌, ◌∙◌, ◌<◌, ◌&&◌, ℕ, true, false, not, List, [], ◌∷◌, None, length, refl, sym, ap, append-nil, subst}
 use Rattle.std.specs.List.{list_all}
 use Rattle.std.proofs.lemmas.Bool.{and_parts, and_from, agree_below_at}
@@ -107,7 +107,7 @@ command_hands f is = hands_class (class_of f) (byte_of f) (and_parts (same_class
 pub command_plain : (f : Frame) → byte_of f < 256 → is_command f ≡ true → is_plain (message_of f) ≡ true
 command_plain f small is = plain_byte (class_of f) (byte_of f) small (and_parts _ _ is).0
 
--- behind one: the state
+-- after one: the state
 pub command_made : {M : Type 0} (view : M → MediumView) (f : Frame) (r s : RingView M) → IsIdle r → is_command f ≡ true → Whole view r (commanded 0 f) s → Made view (Command f) r s
 command_made view f r s idle is whole =
     let parts = and_parts (same_class (class_of f) class.Cmd) (not (is_talk_address (message_of f)) && not (is_aau (message_of f))) is in

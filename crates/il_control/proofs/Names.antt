@@ -20,16 +20,16 @@ use Rattle.il_control.proofs.Talking.{asked_alone}
 -- ---- places
 
 -- of the talker
-there : (before behind : List DeviceState) (d : DeviceState) → accessory_at (length before) (before ++ d ∷ behind) ≡ d.accessory
-there [] behind d = refl
-there (b ∷ before) behind d = there before behind d
+there : (before after : List DeviceState) (d : DeviceState) → accessory_at (length before) (before ++ d ∷ after) ≡ d.accessory
+there [] after d = refl
+there (b ∷ before) after d = there before after d
 
 pub talker_there : (p : ℕ) (own : Option OwnFrame) (ds : List DeviceState) → (talking : IsTalking p own ds) → accessory_at (p - 1) ds ≡ talking.talker.accessory
 talker_there p own ds talking =
     let place : p - 1 ≡ length talking.before = omega (arith, talking.party) in
-    ap (λ i. accessory_at i ds) place ∙ ap (accessory_at (length talking.before)) talking.devices_are ∙ there talking.before talking.behind talking.talker
+    ap (λ i. accessory_at i ds) place ∙ ap (accessory_at (length talking.before)) talking.devices_are ∙ there talking.before talking.after talking.talker
 
--- behind the last device
+-- after the last device
 beyond : (i : ℕ) (ds : List DeviceState) → length ds ≤ i → accessory_at i ds ≡ None
 beyond i [] far = refl
 beyond zero (d ∷ ds) far = absurd (omega (arith, far))
@@ -45,7 +45,7 @@ same_ids i (d ∷ ds) [] heard = absurd heard
 
 -- ---- the device that was asked
 
--- the first talker stands at that place or behind it
+-- the first talker is at that place or after it
 least : (k p : ℕ) (ps : List ℕ) (rs : List Roles) → talkers_from k rs ≡ p ∷ ps → k ≤ p
 least k p ps [] is = cc
 least k p ps (r ∷ rs) is = by r.talks is (λ is. least (suc k) p ps rs is)
@@ -69,7 +69,7 @@ none_at k p (d ∷ ds) nameless is = by d.roles.talks refl is (let up : k + 1 �
         let place : p - k ≡ suc (p - suc k) = omega (arith, far) in
         ap (λ i. accessory_at i (d ∷ ds)) place ∙ more is
 
--- where SAI was not taken the device of that address has none
+-- if SAI was not taken the device of that address has none
 not_named : {M : Type 0} (view : M → MediumView) (r m : RingView M) (a : ℕ) (number : Option ℕ) → IsIdle r → 1 ≤ a → a ≤ 30 → is_number number ≡ true → Asked view a number r m → Each IsNameless 1 (devices_of m) → accessory_at (a - 1) (devices_of m) ≡ None
 not_named view r m a number idle some low fit asked nameless =
     ⊎_elim

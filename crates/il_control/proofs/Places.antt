@@ -77,7 +77,7 @@ both_kept (d ∷ ds) [] unheard places = absurd places
 pub unheard_stay : {M : Type 0} (r s : RingView M) → Unheard r s → First KeepsPlace (length (devices_of r)) (devices_of r) (devices_of s) → AllStay false r s
 unheard_stay r s unheard places = both_kept (devices_of r) (devices_of s) unheard places
 
--- the first so many of them
+-- the first n of them
 part_as : (R S : DeviceState → DeviceState → Type 0) → ((d e : DeviceState) → R d e → S d e) → ((d : DeviceState) → S d d) → (j : ℕ) (ds es : List DeviceState) → First R j ds es → First S (length ds) ds es
 part_as R S rule same j [] [] each = tt
 part_as R S rule same zero (d ∷ ds) (e ∷ es) each = (subst (S d) (sym each.0) (same d), part_as R S rule same zero ds es each.1)
@@ -88,14 +88,14 @@ part_as R S rule same j (d ∷ ds) [] each = absurd each
 part_stay : {M : Type 0} (still : Bool) (m : Message) (r s : RingView M) → is_poll m ≡ false → (still ≡ true → may_change_service m ≡ false) → ObeyedInPart m r s → AllStay still r s
 part_stay still m r s kept same obeyed = part_as (Obeys m) (Stays still) (λ d e obeys. obeys_stay still m d e kept same obeys) (as_it_was still) obeyed.0 (devices_of r) (devices_of s) obeyed.1
 
-stay_behind : {M : Type 0} (still : Bool) (r m s : RingView M) → AllStay still r m → AllStay still m s → AllStay still r s
-stay_behind still r m s first more = each_then (Stays still) (stay_then still) (devices_of r) (devices_of m) (devices_of s) first more
+stay_after : {M : Type 0} (still : Bool) (r m s : RingView M) → AllStay still r m → AllStay still m s → AllStay still r s
+stay_after still r m s first more = each_then (Stays still) (stay_then still) (devices_of r) (devices_of m) (devices_of s) first more
 
 -- ---- commands
 
--- behind a message that was done whole
+-- after a message that was done whole
 pub stay_then_more : {M : Type 0} (view : M → MediumView) (still : Bool) (r m s : RingView M) (xs ys : List Entry) (whole : Bool) → Whole view r xs m → Done view m ys whole s → AllStay still r m → AllStay still m s → AllStay still r s
-stay_then_more view still r m s xs ys whole before after first more = stay_behind still r m s first more
+stay_then_more view still r m s xs ys whole before after first more = stay_after still r m s first more
 
 by_message : {M : Type 0} (still : Bool) (r s : RingView M) (f g : Frame) → f ≡ g → is_poll (message_of g) ≡ false → may_change_service (message_of g) ≡ false → ObeyedInPart (message_of f) r s → AllStay still r s
 by_message still r s f g is kept same obeyed = part_stay still (message_of g) r s kept (λ still. same) (subst (λ f. ObeyedInPart (message_of f) r s) is obeyed)
@@ -125,11 +125,11 @@ number_stay view r s f n number whole after is some small obeyed =
     let no_poll : is_poll (message_of (ddl n)) ≡ false = agree_below_at (λ n. is_poll (message_of (ddl n))) (λ n. false) 32 n refl low in
     subst (λ number. AllStay (not (is_some number)) r s) (sym some) (part_stay false (message_of (ddl n)) r s no_poll (λ is. cc) (subst (λ f. ObeyedInPart (message_of f) r s) is obeyed))
 
--- AAD behind IFC and AAU
+-- AAD after IFC and AAU
 pub address_stay : {M : Type 0} (view : M → MediumView) (r m s : RingView M) (held : Option Flight) (f : Frame) (answer : Arrival) → IsLost r → Whole view r (commanded 0 ifc ++ commanded 0 aau) m → AllStay true r m → Round view m held (sourced 0 f) answer s → f ≡ aad 1 → AllStay true r s
 address_stay view r m s held f answer lost cleared first round is =
     let passed = passed_round view (λ k g. g ≡ aad k) Unaddressed OnlyPassed aad_passes m s held (aad 1) answer cleared.ring.crossings (unaddressed view r lost m cleared) refl (subst (λ f. Round view m held (sourced 0 f) answer s) is round) in
-    stay_behind true r m s first (part_as OnlyPassed (Stays true) passed_stay (as_it_was true) passed.reached (devices_of m) (devices_of s) passed.took)
+    stay_after true r m s first (part_as OnlyPassed (Stays true) passed_stay (as_it_was true) passed.reached (devices_of m) (devices_of s) passed.took)
 
 -- ---- the identify frame
 
@@ -137,7 +137,7 @@ pub identify_stay : {M : Type 0} (view : M → MediumView) (r s : RingView M) (h
 identify_stay view r s held f answer round is idle =
     let all = devices_of r in
     let end = identified_along all idy in
-    let passed = passed_round view (LeadsTo all end) (IsParty all) OnlyPassed (identify_passes all end) r s held idy answer idle.free.ring.crossings (parties [] all) (record { identify = refl; behind = refl }) (subst (λ f. Round view r held (sourced 0 f) answer s) is round) in
+    let passed = passed_round view (LeadsTo all end) (IsParty all) OnlyPassed (identify_passes all end) r s held idy answer idle.free.ring.crossings (parties [] all) (record { identify = refl; after = refl }) (subst (λ f. Round view r held (sourced 0 f) answer s) is round) in
     part_as OnlyPassed (Stays true) passed_stay (as_it_was true) passed.reached all (devices_of s) passed.took
 
 -- ---- a receive has no poll message

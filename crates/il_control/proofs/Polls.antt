@@ -46,7 +46,7 @@ identify_call view r s held f answer round is none idle =
     let past : identified_along (drop (suc (length all) - 1) all) back ≡ back = ap (λ n. identified_along (drop n all) back) less ∙ ap (λ rest. identified_along rest back) (drop-length all) in
     subst (λ answer. PolledUntil view r answer s) (sym came.2) (
       made view (Identify back) r s idle (identify_class (class_of back) leads.identify) refl refl came.3,
-      sym past ∙ leads.behind,
+      sym past ∙ leads.after,
     ))
     (λ lost. subst (λ answer. PolledUntil view r answer s) (sym lost.0) (quiet_broken_off view (Identify idy) r s idle refl refl refl (lost.1 (outcome.Back idy))))
-    (pass_call view (LeadsTo all end) (IsParty all) OnlyPassed (identify_passes all end) (λ d e passed. passed.0) r s held idy answer sent none idle.free (parties [] all) (record { identify = refl; behind = refl }) (AsIdentify refl refl) (λ g leads. poll_comes (drive_party r) g leads.identify))
+    (pass_call view (LeadsTo all end) (IsParty all) OnlyPassed (identify_passes all end) (λ d e passed. passed.0) r s held idy answer sent none idle.free (parties [] all) (record { identify = refl; after = refl }) (AsIdentify refl refl) (λ g leads. poll_comes (drive_party r) g leads.identify))

@@ -29,11 +29,11 @@ use Rattle.il_ring.specs.Outcomes.{met_between, IsTalking}
 use Rattle.std.proofs.lemmas.List.{length-map}
 use Rattle.il_device.specs.State.{DeviceState}
 use Rattle.il_control.specs.Calls.{Unheard, Whole, Broke, IsIdle, loop_of}
-use Rattle.il_control.specs.Receives.{Began, NotBegun, StartLost, FirstLost, TakesBytes, TookInto, NotTook, WasTalking, Answered, NotAnswered, Asked, Received, NotReceived, behind_start, talker_of, is_stopped, received, fits, AllSpoken, Brings, CutBrings, PassedBy, PassedInPart, up_to_end, StandsBehind, SaysOf, SpokenBy, IsNameless, accessory_at, id_bytes, own_frames, said_of, sent_frames}
+use Rattle.il_control.specs.Receives.{BeginWhole, BeginBroken, StartLost, FirstLost, TakesBytes, TakesInto, TakesBroken, WasTalking, Answered, NotAnswered, Asked, Received, NotReceived, after_start, talker_of, is_stopped, received, fits, AllSpoken, Brings, CutBrings, PassesBy, PassesInPart, up_to_end, LiesAfter, SaysOf, SpokenBy, IsNameless, accessory_at, id_bytes, own_frames, said_of, sent_frames}
 use Rattle.loop_model.specs.Reach.{held_at_end as held_after}
 use Rattle.loop_model.proofs.ReachLaws.{sourcing}
 use Rattle.il_control.proofs.HeldAtEnd.{cut_held, cut_holds_none, echo_quiet, front_quiet, front_source, quiet_ended, start_quiet}
-use Rattle.il_control.proofs.Calls.{broke_before_ended, broke_behind_ended, met_parts, room_behind, unheard_then, whole_then, broke_behind, broke_before, broke_behind_standing, broke_before_standing, cut_within, whole_then_came, broke_before_came, broke_behind_came, whole_then_answers}
+use Rattle.il_control.proofs.Calls.{broke_before_ended, broke_after_ended, met_parts, room_after, unheard_then, whole_then, broke_after, broke_before, broke_after_standing, broke_before_standing, cut_within, whole_then_came, broke_before_came, broke_after_came, whole_then_answers}
 use Rattle.il_control.proofs.Made.{made, broken_off, made_whole, broken_off_broke}
 use Rattle.il_control.proofs.Names.{named, talker_there}
 use Rattle.il_control.proofs.Places.{cut_no_poll, receive_no_poll, unheard_stay}
@@ -47,24 +47,24 @@ never_full w some = sym (ne_eqb 0 w (λ e. omega (arith, e, some)))
 
 -- nobody took it
 nobody : (gs : List Frame) (R : Type 0) → R × IsSome (talker_of NotTaken) → AllSpoken gs
-nobody gs R behind = let clash = behind.1 in cc
+nobody gs R after = let clash = after.1 in cc
 
 says_sai : (start : Start) → start ≡ Sai → message_of (start_frame start) ≡ msg.Sai
 says_sai start is = ap (λ start. message_of (start_frame start)) is
 
 pub passed_answered : {M : Type 0} (view : M → MediumView) (r s : RingView M) (start : Start) (old : List ℕ) → 0 < length old → (whole : Whole view r (returned 0 (start_frame start) ∷ []) s) × (own_frames whole.adds.answers ≡ []) × (message_of (start_frame start) ≡ msg.Sai → Each IsNameless 1 (devices_of r)) × Unheard r s → Answered view start 0 r old old s
-passed_answered view r s start old some passed = record { answer = NotTaken; legal = refl; talked = tt; whole = passed.0; far = λ behind. nobody _ _ behind; said = λ is. passed.1; count = refl; within = omega arith; bytes = refl; stops = never_full (length old) some; unheard = passed.3; id = λ sai. passed.2 (says_sai start sai) }
+passed_answered view r s start old some passed = record { answer = NotTaken; legal = refl; talked = tt; whole = passed.0; far = λ after. nobody _ _ after; said = λ is. passed.1; count = refl; within = omega arith; bytes = refl; stops = never_full (length old) some; unheard = passed.3; id = λ sai. passed.2 (says_sai start sai) }
 
 one_answer : {M : Type 0} (r : RingView M) (p : ℕ) (d : Echo) → is_echo d ≡ true → IsTalking p None (devices_of r) → is_answer 0 (ToItsEnd p (d ∷ [])) ≡ true
 one_answer r p d echo talking = and_from (not (p == 0)) (true && list_all is_echo (d ∷ [])) (ap not (ne_eqb p 0 (λ e. omega (arith, e, talking.party)))) (and_from true (list_all is_echo (d ∷ [])) refl (and_from (is_echo d) true echo refl))
 
--- more entries behind a break bring no more frames
+-- more entries after a break bring no more frames
 first_lost : {M : Type 0} (view : M → MediumView) (r s : RingView M) (start : Start) (p : ℕ) (d : Echo) (broke : Broke view r (entry 0 (start_frame start) (outcome.Taken p) ∷ echoed p d ∷ []) s) → AllSpoken broke.adds.came
     → AllSpoken (broke_before view r s (entry 0 (start_frame start) (outcome.Taken p) ∷ echoed p d ∷ []) (entry p eto (outcome.Taken 0) ∷ []) broke).adds.came
 first_lost view r s start p d broke spoken = subst AllSpoken (sym (broke_before_came view r s (entry 0 (start_frame start) (outcome.Taken p) ∷ echoed p d ∷ []) (entry p eto (outcome.Taken 0) ∷ []) broke)) spoken
 
-pub lost_answered : {M : Type 0} (view : M → MediumView) (r s : RingView M) (start : Start) (w : ℕ) → 0 < w → NotBegun view (start_frame start) r s → NotAnswered view start w r s
-lost_answered view r s start w some (StartLost broke unheard) = record { answer = NotTaken; legal = refl; talked = tt; fitting = refl; broke = broke; ended = quiet_ended view r s (returned 0 (start_frame start) ∷ []) broke (and_from _ true (start_quiet start (outcome.Back (start_frame start))) refl); far = λ behind. nobody _ _ behind; unheard = unheard }
+pub lost_answered : {M : Type 0} (view : M → MediumView) (r s : RingView M) (start : Start) (w : ℕ) → 0 < w → BeginBroken view (start_frame start) r s → NotAnswered view start w r s
+lost_answered view r s start w some (StartLost broke unheard) = record { answer = NotTaken; legal = refl; talked = tt; fitting = refl; broke = broke; ended = quiet_ended view r s (returned 0 (start_frame start) ∷ []) broke (and_from _ true (start_quiet start (outcome.Back (start_frame start))) refl); far = λ after. nobody _ _ after; unheard = unheard }
 lost_answered view r s start w some (FirstLost p d echo talking broke far unheard) = record {
   answer = ToItsEnd p (d ∷ []);
   legal = one_answer r p d echo talking;
@@ -74,7 +74,7 @@ lost_answered view r s start w some (FirstLost p d echo talking broke far unhear
   ended = quiet_ended view r s (entry 0 (start_frame start) (outcome.Taken p) ∷ echoed p d ∷ entry p eto (outcome.Taken 0) ∷ [])
       (broke_before view r s (entry 0 (start_frame start) (outcome.Taken p) ∷ echoed p d ∷ []) (entry p eto (outcome.Taken 0) ∷ []) broke)
       (and_from _ _ (start_quiet start (outcome.Taken p)) (and_from _ true (echo_quiet p d echo) refl));
-  far = λ behind. first_lost view r s start p d broke (far behind.0);
+  far = λ after. first_lost view r s start p d broke (far after.0);
   unheard = unheard;
 }
 
@@ -85,10 +85,10 @@ said_by (ToItsEnd q ds) p is = refl
 said_by (Stopped q ds last) p is = refl
 
 -- the entries of an answer by this talker
-taken_entries : (f : Frame) (answer : Answer) (p : ℕ) → talker_of answer ≡ Some p → answer_entries 0 f answer ≡ entry 0 f (outcome.Taken p) ∷ behind_start answer
+taken_entries : (f : Frame) (answer : Answer) (p : ℕ) → talker_of answer ≡ Some p → answer_entries 0 f answer ≡ entry 0 f (outcome.Taken p) ∷ after_start answer
 taken_entries f NotTaken p is = cc
-taken_entries f (ToItsEnd q ds) p is = let same : q ≡ p = cc in ap (λ p. entry 0 f (outcome.Taken p) ∷ behind_start (ToItsEnd q ds)) same
-taken_entries f (Stopped q ds last) p is = let same : q ≡ p = cc in ap (λ p. entry 0 f (outcome.Taken p) ∷ behind_start (Stopped q ds last)) same
+taken_entries f (ToItsEnd q ds) p is = let same : q ≡ p = cc in ap (λ p. entry 0 f (outcome.Taken p) ∷ after_start (ToItsEnd q ds)) same
+taken_entries f (Stopped q ds last) p is = let same : q ≡ p = cc in ap (λ p. entry 0 f (outcome.Taken p) ∷ after_start (Stopped q ds last)) same
 
 -- the end of the transmission is among the entries of an answer
 near_of : (f : Frame) (answer : Answer) (q p : ℕ) → talker_of answer ≡ Some p → (p == 0) ≡ false → list_all (is_from_here q) (answer_entries 0 f answer) ≡ true → q ≤ p
@@ -97,7 +97,7 @@ near_of f (ToItsEnd t ds) q p is device from = let same : t ≡ p = cc in near_s
 near_of f (Stopped t ds last) q p is device from = let same : t ≡ p = cc in near_source q p (entry 0 f (outcome.Taken t) ∷ map (echoed t) ds ++ returned 0 nrd ∷ []) (echoed t last) (entry t eto (outcome.Taken 0) ∷ [])
     (ap (λ es. list_all (is_from_here q) (entry 0 f (outcome.Taken t) ∷ es)) (append_assoc (map (echoed t) ds) (returned 0 nrd ∷ []) (echoed t last ∷ entry t eto (outcome.Taken 0) ∷ [])) ∙ from) same device
 
-module _ {M : Type 0} (view : M → MediumView) (r m s : RingView M) (start : Start) (ring : IsRing r) (began : Began view (start_frame start) r m) where
+module _ {M : Type 0} (view : M → MediumView) (r m s : RingView M) (start : Start) (ring : IsRing r) (began : BeginWhole view (start_frame start) r m) where
   abbrev p : ℕ
   p = began.now.flight.source
 
@@ -113,34 +113,34 @@ module _ {M : Type 0} (view : M → MediumView) (r m s : RingView M) (start : St
   spoilt_met : began.now.flight.altered ≡ true → met_between r m ≡ [] → ⊥
   spoilt_met altered = subst (λ altered. MatchBool altered (met_between r m ≡ [] → ⊥) (met_between r m ≡ [])) altered began.met
 
-  all_added : (answer : Answer) (added : Brings view m p (λ gs. began.now.flight.sent ∷ gs ≡ sent_frames answer ++ eto ∷ []) (Some p) (behind_start answer) None s) → talker_of answer ≡ Some p
+  all_added : (answer : Answer) (added : Brings view m p (λ gs. began.now.flight.sent ∷ gs ≡ sent_frames answer ++ eto ∷ []) (Some p) (after_start answer) None s) → talker_of answer ≡ Some p
       → Brings view r p (λ gs. gs ≡ sent_frames answer ++ eto ∷ []) None (answer_entries 0 (start_frame start) answer) None s
   all_added answer added talker =
       subst (λ es. Brings view r p (λ gs. gs ≡ sent_frames answer ++ eto ∷ []) None es None s) (sym (taken_entries (start_frame start) answer p talker))
-      (brings_more view r m p (λ gs. gs ≡ began.now.flight.sent ∷ []) None (Some p) first began.added s (λ gs. began.now.flight.sent ∷ gs ≡ sent_frames answer ++ eto ∷ []) (λ gs. gs ≡ sent_frames answer ++ eto ∷ []) None (behind_start answer) added
+      (brings_more view r m p (λ gs. gs ≡ began.now.flight.sent ∷ []) None (Some p) first began.added s (λ gs. began.now.flight.sent ∷ gs ≡ sent_frames answer ++ eto ∷ []) (λ gs. gs ≡ sent_frames answer ++ eto ∷ []) None (after_start answer) added
       (λ gs hs one more. ap (λ gs. gs ++ hs) one ∙ more))
 
-  cut_added : (answer : Answer) (standing : ℕ) (break : Break) (held_at_end : Option ℕ) → CutBrings view m p (Some p) (behind_start answer) standing break held_at_end s → talker_of answer ≡ Some p
+  cut_added : (answer : Answer) (standing : ℕ) (break : Break) (held_at_end : Option ℕ) → CutBrings view m p (Some p) (after_start answer) standing break held_at_end s → talker_of answer ≡ Some p
       → CutBrings view r p None (answer_entries 0 (start_frame start) answer) (suc standing) break held_at_end s
   cut_added answer standing break held_at_end added talker =
-      subst (λ es. CutBrings view r p None es (suc standing) break held_at_end s) (sym (taken_entries (start_frame start) answer p talker)) (cut_brings_more view r m p (λ gs. gs ≡ began.now.flight.sent ∷ []) None (Some p) first began.added s held_at_end (behind_start answer) standing break added)
+      subst (λ es. CutBrings view r p None es (suc standing) break held_at_end s) (sym (taken_entries (start_frame start) answer p talker)) (cut_brings_more view r m p (λ gs. gs ≡ began.now.flight.sent ∷ []) None (Some p) first began.added s held_at_end (after_start answer) standing break added)
 
-  -- the premise on the entries tells where the drive stands
+  -- the premise on the entries shows where the drive stands
   near_talker : (answer : Answer) → talker_of answer ≡ Some p → list_all (is_from_here (drive_party r)) (answer_entries 0 (start_frame start) answer) ≡ true → drive_party r ≤ p
   near_talker answer talker from = near_of (start_frame start) answer (drive_party r) p talker (device_source p (omega (arith, began.now.talking.party))) from
 
   says_talker : (answer : Answer) → talker_of answer ≡ Some p → SaysOf answer r → drive_party r ≡ p
   says_talker answer talker says = sym (subst (λ o. IfSome o (λ p. p ≡ drive_party r)) talker says)
 
-  far_talker : (answer : Answer) → talker_of answer ≡ Some p → StandsBehind answer r → p < drive_party r
-  far_talker answer talker behind = subst (λ o. IfSome o (λ p. p < drive_party r)) talker behind.0
+  far_talker : (answer : Answer) → talker_of answer ≡ Some p → LiesAfter answer r → p < drive_party r
+  far_talker answer talker after = subst (λ o. IfSome o (λ p. p < drive_party r)) talker after.0
 
-  pub took_answered : (old new : List ℕ) (n : ℕ) → TookInto view m began.now old new n s → Answered view start n r old new s
+  pub took_answered : (old new : List ℕ) (n : ℕ) → TakesInto view m began.now old new n s → Answered view start n r old new s
   took_answered old new n into =
       let took = into.took in
       let answer = took.answer in
       let entries = taken_entries (start_frame start) answer p took.talker in
-      let split = met_parts view r m s None (Some p) (Some p) None first (behind_start answer) ring began.now.ring began.added.adds took.added.adds in
+      let split = met_parts view r m s None (Some p) (Some p) None first (after_start answer) ring began.now.ring began.added.adds took.added.adds in
       record {
         answer = answer;
         legal = took.legal;
@@ -153,7 +153,7 @@ module _ {M : Type 0} (view : M → MediumView) (r m s : RingView M) (start : St
           unheard = λ none. unheard_then (devices_of r) (devices_of m) (devices_of s) began.unheard took.unheard;
           brought = λ from. ((all_added answer took.added took.talker).near (near_talker answer took.talker from)).0;
         };
-        far = λ behind. (all_added answer took.added took.talker).far (far_talker answer took.talker behind);
+        far = λ after. (all_added answer took.added took.talker).far (far_talker answer took.talker after);
         said = λ is. let at : drive_party r ≡ p = says_talker answer took.talker is in ((all_added answer took.added took.talker).near (omega (arith, at))).1 at ∙ sym (said_by answer p took.talker);
         count = into.count ∙ ap length took.bytes_are;
         within = into.within;
@@ -168,11 +168,11 @@ module _ {M : Type 0} (view : M → MediumView) (r m s : RingView M) (start : St
             subst (λ o. MatchOption o (Each IsNameless 1 (devices_of r)) (λ p. received answer ≡ id_bytes (accessory_at (p - 1) (devices_of r)))) (sym took.talker) told;
       }
 
-  pub not_took_answered : (w : ℕ) → NotTook view m began.now w s → NotAnswered view start w r s
+  pub not_took_answered : (w : ℕ) → TakesBroken view m began.now w s → NotAnswered view start w r s
   not_took_answered w not_took =
       let answer = not_took.answer in
       let entries = taken_entries (start_frame start) answer p not_took.talker in
-      let cut = cut_at (behind_start answer) not_took.standing not_took.break in
+      let cut = cut_at (after_start answer) not_took.standing not_took.break in
       let split = met_parts view r m s None (Some p) (Some p) not_took.held_at_end first cut ring began.now.ring began.added.adds not_took.added.adds in
       let all_unheard = unheard_then (devices_of r) (devices_of m) (devices_of s) began.unheard not_took.unheard in
       record {
@@ -185,7 +185,7 @@ module _ {M : Type 0} (view : M → MediumView) (r m s : RingView M) (start : St
           break = not_took.break;
           legal = ap (λ es. can_cut 0 es (suc not_took.standing) not_took.break) entries ∙ not_took.cuts;
           held_at_end = not_took.held_at_end;
-          told = λ none. not_took.ended ∙ cut_holds_none (Some p) (behind_start answer) not_took.standing not_took.break (and_parts _ _ (subst (λ es. list_all is_no_nrd es ≡ true) entries none)).1;
+          told = λ none. not_took.ended ∙ cut_holds_none (Some p) (after_start answer) not_took.standing not_took.break (and_parts _ _ (subst (λ es. list_all is_no_nrd es ≡ true) entries none)).1;
           adds = (cut_added answer not_took.standing not_took.break not_took.held_at_end not_took.added not_took.talker).adds;
           ring = not_took.ring;
           held = not_took.held;
@@ -193,12 +193,12 @@ module _ {M : Type 0} (view : M → MediumView) (r m s : RingView M) (start : St
           unheard = λ none. all_unheard;
           brought = λ from. (cut_added answer not_took.standing not_took.break not_took.held_at_end not_took.added not_took.talker).near (near_talker answer not_took.talker from);
         };
-        ended = not_took.ended ∙ sym (cut_held None first (behind_start answer) not_took.standing not_took.break not_took.cuts) ∙ ap (λ es. held_after None (cut_at es (suc not_took.standing) not_took.break)) (sym entries);
-        far = λ behind. (cut_added answer not_took.standing not_took.break not_took.held_at_end not_took.added not_took.talker).far (far_talker answer not_took.talker behind);
+        ended = not_took.ended ∙ sym (cut_held None first (after_start answer) not_took.standing not_took.break not_took.cuts) ∙ ap (λ es. held_after None (cut_at es (suc not_took.standing) not_took.break)) (sym entries);
+        far = λ after. (cut_added answer not_took.standing not_took.break not_took.held_at_end not_took.added not_took.talker).far (far_talker answer not_took.talker after);
         unheard = all_unheard;
       }
 
-pub bytes_answered : {M : Type 0} (view : M → MediumView) (r m s : RingView M) (start : Start) (old new : List ℕ) (result : Option ℕ) → IsRing r → Began view (start_frame start) r m → TakesBytes view m old new result s
+pub bytes_answered : {M : Type 0} (view : M → MediumView) (r m s : RingView M) (start : Start) (old new : List ℕ) (result : Option ℕ) → IsRing r → BeginWhole view (start_frame start) r m → TakesBytes view m old new result s
     → MatchOption result (NotAnswered view start (length old) r s) (λ n. Answered view start n r old new s)
 bytes_answered view r m s start old new None ring began takes = not_took_answered view r m s start ring began (length old) (takes began.now)
 bytes_answered view r m s start old new (Some n) ring began takes = took_answered view r m s start ring began old new n (takes began.now)
@@ -223,12 +223,12 @@ length_front a None = omega arith
 length_front a (Some n) = omega arith
 
 pub asked_room : {M : Type 0} (view : M → MediumView) (r m : RingView M) (a : ℕ) (number : Option ℕ) (more : ℕ) → Asked view a number r m → more + 6 ≤ spare_of r → more ≤ spare_of m
-asked_room view r m a number more asked room = let long = length_front a number in room_behind view r m (receive_front 0 a number) more asked.whole (omega (arith, long, room))
+asked_room view r m a number more asked room = let long = length_front a number in room_after view r m (receive_front 0 a number) more asked.whole (omega (arith, long, room))
 
 pub answered_room : {M : Type 0} (view : M → MediumView) (r s : RingView M) (start : Start) (n more : ℕ) (old new : List ℕ) → Answered view start n r old new s → more + (length old + 3) ≤ spare_of r → more ≤ spare_of s
 answered_room view r s start n more old new answered room =
     let long = length_answer (start_frame start) answered.answer in
-    room_behind view r s (answer_entries 0 (start_frame start) answered.answer) more answered.whole (omega (arith, long, room, answered.count, answered.within))
+    room_after view r s (answer_entries 0 (start_frame start) answered.answer) more answered.whole (omega (arith, long, room, answered.count, answered.within))
 
 -- what was taken fits
 answered_fits : (answer : Answer) (n w : ℕ) → n ≡ length (received answer) → n ≤ w → is_stopped answer ≡ (n == w) → fits w answer ≡ true
@@ -294,9 +294,9 @@ module _ {M : Type 0} (view : M → MediumView) (a : ℕ) (number : Option ℕ) 
   as_asked : (answer : Answer) → answers_as_asked (length (devices_of r)) (Receive a number start answer) ≡ true → answers_as_asked (length (roles_of (devices_of r))) (Receive a number start answer) ≡ true
   as_asked answer asked = ap (λ k. answers_as_asked k (Receive a number start answer)) (length-map (devices_of r) (λ (d : DeviceState). d.roles)) ∙ asked
 
-  -- what came to the drive, where it stands behind the talker
+  -- what came to the drive, if it comes after the talker
   abbrev Passed : Answer → ℕ → List Frame → Type 0
-  Passed answer standing came = StandsBehind answer r → PassedInPart (length (devices_of r)) (drive_party r) a number (up_to_end a number start answer) standing came
+  Passed answer standing came = LiesAfter answer r → PassesInPart (length (devices_of r)) (drive_party r) a number (up_to_end a number start answer) standing came
 
   -- whether a frame was held is read off
   abbrev EndedSo : {s : RingView M} (es : List Entry) → Broke view r es s → Type 0
@@ -321,17 +321,17 @@ module _ {M : Type 0} (view : M → MediumView) (a : ℕ) (number : Option ℕ) 
 
   -- no device was told to talk
   pub not_asked : (w : ℕ) (s : RingView M) → Broke view r front s → NotReceived view a number start w r s
-  not_asked w s broke = broken NotTaken w s refl refl refl (broke_before view r s front (all NotTaken ++ commanded 0 unt) broke) (broke_before_ended view r s front (all NotTaken ++ commanded 0 unt) broke (quiet_ended view r s front broke (front_quiet a number))) (λ behind. let clash = behind.1 in cc) (broke.unheard (front_no_data a number))
+  not_asked w s broke = broken NotTaken w s refl refl refl (broke_before view r s front (all NotTaken ++ commanded 0 unt) broke) (broke_before_ended view r s front (all NotTaken ++ commanded 0 unt) broke (quiet_ended view r s front broke (front_quiet a number))) (λ after. let clash = after.1 in cc) (broke.unheard (front_no_data a number))
 
   module _ (m : RingView M) (asked : Asked view a number r m) where
     front_unheard : Unheard r m
     front_unheard = asked.whole.unheard (front_no_data a number)
 
-    -- the drive stands behind the talker still
-    behind_still : (answer : Answer) → StandsBehind answer r → StandsBehind answer m
-    behind_still answer behind = (subst (λ q. IfSome (talker_of answer) (λ p. p < q)) (sym (ap (λ n. n + 1) asked.whole.adds.before)) behind.0, behind.1)
+    -- the drive comes after the talker still
+    after_still : (answer : Answer) → LiesAfter answer r → LiesAfter answer m
+    after_still answer after = (subst (λ q. IfSome (talker_of answer) (λ p. p < q)) (sym (ap (λ n. n + 1) asked.whole.adds.before)) after.0, after.1)
 
-    -- and so where it is the talker
+    -- and so if it is the talker
     says_still : (answer : Answer) → SaysOf answer r → SaysOf answer m
     says_still answer says = subst (λ q. IfSome (talker_of answer) (λ p. p ≡ q)) (sym (ap (λ n. n + 1) asked.whole.adds.before)) says
 
@@ -341,27 +341,27 @@ module _ {M : Type 0} (view : M → MediumView) (a : ℕ) (number : Option ℕ) 
     pub not_answered : (w : ℕ) (s : RingView M) → NotAnswered view start w m s → NotReceived view a number start w r s
     not_answered w s off =
         let part = broke_before view m s (all off.answer) (commanded 0 unt) off.broke in
-        let whole = broke_behind view r m s front (all off.answer ++ commanded 0 unt) idle.free.ring asked.whole part in
+        let whole = broke_after view r m s front (all off.answer ++ commanded 0 unt) idle.free.ring asked.whole part in
         let came : whole.adds.came ≡ asked.whole.adds.came ++ (off.broke.adds.came ++ []) =
-        broke_behind_came view r m s front (all off.answer ++ commanded 0 unt) idle.free.ring asked.whole part
+        broke_after_came view r m s front (all off.answer ++ commanded 0 unt) idle.free.ring asked.whole part
         ∙ ap (λ gs. asked.whole.adds.came ++ gs) (broke_before_came view m s (all off.answer) (commanded 0 unt) off.broke ∙ sym (append-nil off.broke.adds.came)) in
-        let stands = broke_behind_standing view r m s front (all off.answer ++ commanded 0 unt) idle.free.ring asked.whole part ∙ ap (λ n. length front + n) (broke_before_standing view m s (all off.answer) (commanded 0 unt) off.broke) in
+        let stands = broke_after_standing view r m s front (all off.answer ++ commanded 0 unt) idle.free.ring asked.whole part ∙ ap (λ n. length front + n) (broke_before_standing view m s (all off.answer) (commanded 0 unt) off.broke) in
         let short = cut_within (all off.answer) off.broke.standing off.broke.break off.broke.legal in
         let rest = broke_before_ended view m s (all off.answer) (commanded 0 unt) off.broke off.ended in
-        let ended = broke_behind_ended view r m s front (all off.answer ++ commanded 0 unt) idle.free.ring asked.whole part (rest ∙ ap (λ before. held_after before (cut_at (all off.answer ++ commanded 0 unt) part.standing part.break)) (sym (front_source a number))) in
+        let ended = broke_after_ended view r m s front (all off.answer ++ commanded 0 unt) idle.free.ring asked.whole part (rest ∙ ap (λ before. held_after before (cut_at (all off.answer ++ commanded 0 unt) part.standing part.break)) (sym (front_source a number))) in
         broken off.answer w s (asked_one view r m a number start off.answer idle some low (number_fits number small) asked off.talked) off.legal off.fitting whole ended
-        (λ behind. record {
+        (λ after. record {
           before = asked.whole.adds.came;
           spoken = off.broke.adds.came;
-          behind = [];
+          after = [];
           all = came;
           first = front_brought;
-          during = off.far (behind_still off.answer behind);
+          during = off.far (after_still off.answer after);
           last = inl (omega (arith, stands, short), refl);
         })
         (unheard_then (devices_of r) (devices_of m) (devices_of s) front_unheard off.unheard)
 
-    -- behind the answer the ring has the same devices
+    -- after the answer the ring has the same devices
     module _ (n : ℕ) (old new : List ℕ) (u : RingView M) (answered : Answered view start n m old new u) where
       size_still : length (devices_of u) ≡ length (devices_of r)
       size_still = answered.whole.adds.size ∙ asked.whole.adds.size
@@ -376,27 +376,27 @@ module _ {M : Type 0} (view : M → MediumView) (a : ℕ) (number : Option ℕ) 
       not_ended s f is broke =
           let answer = answered.answer in
           let off = subst (λ f. Broke view u (commanded 0 f) s) is broke in
-          let more = broke_behind view m u s (all answer) (commanded 0 unt) asked.whole.ring answered.whole off in
-          let whole = broke_behind view r m s front (all answer ++ commanded 0 unt) idle.free.ring asked.whole more in
+          let more = broke_after view m u s (all answer) (commanded 0 unt) asked.whole.ring answered.whole off in
+          let whole = broke_after view r m s front (all answer ++ commanded 0 unt) idle.free.ring asked.whole more in
           let came : whole.adds.came ≡ asked.whole.adds.came ++ (answered.whole.adds.came ++ off.adds.came) =
-          broke_behind_came view r m s front (all answer ++ commanded 0 unt) idle.free.ring asked.whole more
-          ∙ ap (λ gs. asked.whole.adds.came ++ gs) (broke_behind_came view m u s (all answer) (commanded 0 unt) asked.whole.ring answered.whole off) in
-          let stands = broke_behind_standing view r m s front (all answer ++ commanded 0 unt) idle.free.ring asked.whole more ∙ ap (λ n. length front + n) (broke_behind_standing view m u s (all answer) (commanded 0 unt) asked.whole.ring answered.whole off) in
-          let rest = broke_behind_ended view m u s (all answer) (commanded 0 unt) asked.whole.ring answered.whole off (off.told refl ∙ sym (cut_holds_none (sourcing None (all answer)) (commanded 0 unt) off.standing off.break refl)) in
-          let ended = broke_behind_ended view r m s front (all answer ++ commanded 0 unt) idle.free.ring asked.whole more (rest ∙ ap (λ before. held_after before (cut_at (all answer ++ commanded 0 unt) more.standing more.break)) (sym (front_source a number))) in
+          broke_after_came view r m s front (all answer ++ commanded 0 unt) idle.free.ring asked.whole more
+          ∙ ap (λ gs. asked.whole.adds.came ++ gs) (broke_after_came view m u s (all answer) (commanded 0 unt) asked.whole.ring answered.whole off) in
+          let stands = broke_after_standing view r m s front (all answer ++ commanded 0 unt) idle.free.ring asked.whole more ∙ ap (λ n. length front + n) (broke_after_standing view m u s (all answer) (commanded 0 unt) asked.whole.ring answered.whole off) in
+          let rest = broke_after_ended view m u s (all answer) (commanded 0 unt) asked.whole.ring answered.whole off (off.told refl ∙ sym (cut_holds_none (sourcing None (all answer)) (commanded 0 unt) off.standing off.break refl)) in
+          let ended = broke_after_ended view r m s front (all answer ++ commanded 0 unt) idle.free.ring asked.whole more (rest ∙ ap (λ before. held_after before (cut_at (all answer ++ commanded 0 unt) more.standing more.break)) (sym (front_source a number))) in
           broken answer (length old) s told answered.legal (answered_fits answer n (length old) answered.count answered.within answered.stops) whole ended
-          (λ behind. record {
+          (λ after. record {
             before = asked.whole.adds.came;
             spoken = answered.whole.adds.came;
-            behind = off.adds.came;
+            after = off.adds.came;
             all = came;
             first = front_brought;
-            during = answered.far (behind_still answer behind);
+            during = answered.far (after_still answer after);
             last =
-                let behind_end : off.standing ≡ whole.standing - up_to_end a number start answer = omega (arith, stands) in
+                let after_end : off.standing ≡ whole.standing - up_to_end a number start answer = omega (arith, stands) in
                 inr (
                   omega (arith, stands),
-                  subst (λ n. CutBrought (length (devices_of r)) (drive_party r) (commanded 0 unt) n off.adds.came) behind_end
+                  subst (λ n. CutBrought (length (devices_of r)) (drive_party r) (commanded 0 unt) n off.adds.came) after_end
                       (same_place r u (λ k q. CutBrought k q (commanded 0 unt) off.standing off.adds.came) before_still size_still (off.brought refl)),
                 );
           })
@@ -418,14 +418,14 @@ module _ {M : Type 0} (view : M → MediumView) (a : ℕ) (number : Option ℕ) 
           whole_then_answers view r m s front (all answer ++ commanded 0 unt) idle.free.ring asked.whole more
           ∙ ap (λ outs. asked.whole.adds.answers ++ outs) (whole_then_answers view m u s (all answer) (commanded 0 unt) asked.whole.ring answered.whole last) in
           let P : List Frame → List Out → Type 0 = λ came answers.
-          (StandsBehind answer r → PassedBy (length (devices_of r)) (drive_party r) a number came) × (SaysOf answer r → SpokenBy (length (devices_of r)) (drive_party r) a number start answer came answers) in
-          let passed : StandsBehind answer r → PassedBy (length (devices_of r)) (drive_party r) a number done.adds.came = λ behind. record {
+          (LiesAfter answer r → PassesBy (length (devices_of r)) (drive_party r) a number came) × (SaysOf answer r → SpokenBy (length (devices_of r)) (drive_party r) a number start answer came answers) in
+          let passed : LiesAfter answer r → PassesBy (length (devices_of r)) (drive_party r) a number done.adds.came = λ after. record {
             before = asked.whole.adds.came;
             spoken = answered.whole.adds.came;
-            behind = last.adds.came;
+            after = last.adds.came;
             all = came;
             first = asked.whole.brought (front_from_here (drive_party r) a number);
-            during = answered.far (behind_still answer behind);
+            during = answered.far (after_still answer after);
             last = same_place r u (λ k q. Brought k q (commanded 0 unt) last.adds.came) before_still size_still (last.brought refl);
           } in
           let spoken : SaysOf answer r → SpokenBy (length (devices_of r)) (drive_party r) a number start answer done.adds.came done.adds.answers = λ is.
@@ -433,14 +433,14 @@ module _ {M : Type 0} (view : M → MediumView) (a : ℕ) (number : Option ℕ) 
           record {
             before = asked.whole.adds.came;
             during = answered.whole.adds.came;
-            behind = last.adds.came;
+            after = last.adds.came;
             all = came;
             first = asked.whole.brought (front_from_here (drive_party r) a number);
             middle = same_place r m (λ k q. Brought k q (all answer) answered.whole.adds.came) asked.whole.adds.before asked.whole.adds.size (answered.whole.brought (answer_from_here (start_frame start) answer (drive_party m) here));
             last = same_place r u (λ k q. Brought k q (commanded 0 unt) last.adds.came) before_still size_still (last.brought refl);
             answers_before = asked.whole.adds.answers;
             answers_during = answered.whole.adds.answers;
-            answers_behind = last.adds.answers;
+            answers_after = last.adds.answers;
             all_answers = answers;
             many_before = ran_length view r.drive m.drive asked.whole.adds.came asked.whole.adds.answers asked.whole.adds.drive;
             many_during = ran_length view m.drive u.drive answered.whole.adds.came answered.whole.adds.answers answered.whole.adds.drive;

@@ -39,7 +39,7 @@ use Rattle.il_ring.proofs.RoundRoles.{IsQuiet}
 use Rattle.il_ring.proofs.SendLaws.{kept_sent}
 use Rattle.il_control.specs.Calls.{Unheard}
 use Rattle.il_control.specs.Brought.{Brought, CutBrought}
-use Rattle.il_control.specs.Receives.{AddsBy, IsSpoken, AllSpoken, IsDeaf, IsHolding, WentOn, Ended, AtHeld, AtNext, AtEnd, Severed, WentAs, IsOnward, own_frames}
+use Rattle.il_control.specs.Receives.{AddsBy, IsSpoken, AllSpoken, IsDeaf, IsHolding, RelaysNext, Ended, AtHeld, AtNext, AtEnd, RelayBroken, RelaysAs, IsOnward, own_frames}
 use Rattle.il_control.proofs.Spoken.{data_may, data_right, brought_end}
 use Rattle.il_control.specs.declared.receiving.Onward.{Onward}
 use Rattle.il_control.specs.declared.receiving.Onward.TheVariants as onward
@@ -63,7 +63,7 @@ abbrev others_of : List Roles → List Roles
 others_of [] = []
 others_of (r ∷ rs) = rs
 
--- and are deaf still where no role changes
+-- and are deaf still if no role changes
 pub deaf_still : (k : ℕ) (ds es : List DeviceState) → roles_of es ≡ roles_of ds → Each IsDeaf k ds → Each IsDeaf k es
 deaf_still k ds [] same deaf = tt
 deaf_still k [] (e ∷ es) same deaf = cc
@@ -71,20 +71,20 @@ deaf_still k (d ∷ ds) (e ∷ es) same deaf = (ap (λ rs. (first_of d.roles rs)
 
 -- ---- a talker
 
-pub talker_own : (before behind : List DeviceState) (d : DeviceState) → own_at (length before) (before ++ d ∷ behind) ≡ d.own
-talker_own [] behind d = refl
-talker_own (b ∷ before) behind d = talker_own before behind d
+pub talker_own : (before after : List DeviceState) (d : DeviceState) → own_at (length before) (before ++ d ∷ after) ≡ d.own
+talker_own [] after d = refl
+talker_own (b ∷ before) after d = talker_own before after d
 
 pub awaited : (p : ℕ) (own : OwnFrame) (f : Flight) (devices : List DeviceState) → f.source ≡ p → is_data f.now ≡ true → IsTalking p (Some own) devices → IsReady f devices
 awaited p own f devices at data_frame talking =
-    let many = ap length talking.devices_are ∙ length-append talking.before (talking.talker ∷ talking.behind) in
+    let many = ap length talking.devices_are ∙ length-append talking.before (talking.talker ∷ talking.after) in
     inr (record {
       place = length talking.before;
       there = omega (arith, at, talking.party);
       within = omega (arith, many);
       data_frame = data_frame;
       own = own;
-      waits = ap (own_at (length talking.before)) talking.devices_are ∙ talker_own talking.before talking.behind talking.talker ∙ talking.own_is;
+      waits = ap (own_at (length talking.before)) talking.devices_are ∙ talker_own talking.before talking.after talking.talker ∙ talking.own_is;
     })
 
 -- ---- echoes
@@ -101,9 +101,9 @@ spoken_one P r s gs spoken (inr came) = subst AllSpoken (sym came.2) (spoken cam
 
 -- what came of it, by what arrived
 pub data RelayEnd {M : Type 0} (view : M → MediumView) (m : RingView M) (h : IsHolding m) (answer : Arrival) (s : RingView M) : Type 0 where
-  ItWentOn : (g : Frame) → answer ≡ arrival.Frame g → is_data g ≡ true → WentOn view m h s → RelayEnd view m h answer s
+  ItWentOn : (g : Frame) → answer ≡ arrival.Frame g → is_data g ≡ true → RelaysNext view m h s → RelayEnd view m h answer s
   ItEnded : answer ≡ arrival.Frame eto → Ended view m h s → RelayEnd view m h answer s
-  ItBroke : (answer ≡ arrival.Lost) ⊎ (answer ≡ arrival.Frame ete) → Severed view m h s → RelayEnd view m h answer s
+  ItBroke : (answer ≡ arrival.Lost) ⊎ (answer ≡ arrival.Frame ete) → RelayBroken view m h s → RelayEnd view m h answer s
 
 module _ {M : Type 0} (view : M → MediumView) (m s : RingView M) (h : IsHolding m) (answer : Arrival) (round : Round view m None h.flight answer s) where
   abbrev p : ℕ
@@ -127,14 +127,14 @@ module _ {M : Type 0} (view : M → MediumView) (m s : RingView M) (h : IsHoldin
   sending : device_sending h.flight ≡ Some p
   sending = ap (λ (own : Bool). if own then None else Some p) is_device
 
-  -- the drive is the talker or stands before it, or it stands behind it
+  -- the drive is the talker or is before it, or it comes after it
   place : (drive_party m ≤ p) ⊎ (p < drive_party m)
   place = ⊎_elim (λ (none : drive_party m - p ≡ 0). inl (omega (arith, none))) (λ far. inr (omega (arith, far))) (eq-zero-or-pos (drive_party m - p))
 
   from_source : (entries : List Entry) (to : Option ℕ) (B : ℕ → ℕ → List Frame → List Out → Type 0) → AddsBy view m p (device_sending h.flight) entries to B s → AddsBy view m p (Some p) entries to B s
   from_source entries to B added = subst (λ from. AddsBy view m p from entries to B s) sending added
 
-  -- it certainly came, or may have come, where the drive does not stand behind the talker
+  -- it certainly came, or may have come, if the drive does not come after the talker
   did_near : (P : Frame → Out → Type 0) (entries : List Entry) (to : Option ℕ) (B : ℕ → ℕ → List Frame → List Out → Type 0) → s.books.log ≡ m.books.log ++ entries → holding counts.new ≡ to → drive_party m ≤ p → DriveDid view P m s
       → ((g : Frame) (out : Out) → P g out → B (length (devices_of m)) (drive_party m) (g ∷ []) (out ∷ [])) → AddsBy view m p (Some p) entries to B s
   did_near P entries to B log new near did brought =
@@ -164,7 +164,7 @@ module _ {M : Type 0} (view : M → MediumView) (m s : RingView M) (h : IsHoldin
         far = λ _. spoken_one P m s _ spoken (device_came view P m s None h.flight answer entries to quiet ready round log new took);
       })
 
-  -- with its answer, where the drive is the talker
+  -- with its answer, if the drive is the talker
   did_so : (P : Frame → Type 0) (A : Out → Type 0) → drive_party m ≤ p → (drive_party m ≤ p → DriveHad view P m s) → (drive_party m ≡ p → DriveDid view (λ g out. P g × A out) m s) → DriveDid view (λ g out. P g × (drive_party m ≡ p → A out)) m s
   did_so P A here near said =
       ⊎_elim
@@ -199,9 +199,9 @@ module _ {M : Type 0} (view : M → MediumView) (m s : RingView M) (h : IsHoldin
   own_echo f data_frame = right_echo f f data_frame refl
 
   within : p ≤ length (devices_of m)
-  within = let many = ap length h.talking.devices_are ∙ length-append h.talking.before (h.talking.talker ∷ h.talking.behind) in omega (arith, many, h.talking.party)
+  within = let many = ap length h.talking.devices_are ∙ length-append h.talking.before (h.talking.talker ∷ h.talking.after) in omega (arith, many, h.talking.party)
 
-  -- with the end of the transmission behind it
+  -- with the end of the transmission after it
   brought_here : (back g : Frame) → drive_party m ≤ p → CameAs true h.flight.sent g → Brought (length (devices_of m)) (drive_party m) (echoed p (echo_of back) ∷ entry p eto (outcome.Taken 0) ∷ []) (g ∷ [])
   brought_here back g near came =
       let comes = data_right (drive_party m) h.flight.sent g h.data_frame came.0 (came.1 refl) in
@@ -228,7 +228,7 @@ module _ {M : Type 0} (view : M → MediumView) (m s : RingView M) (h : IsHoldin
     unheard = unheard;
   })
 
-  -- the talker sent a further frame behind the right echo
+  -- the talker sent a further frame after the right echo
   went_on : (right : Bool) (back : Frame) → right ≡ true → (drive_party m ≤ p → DriveHad view (CameAs right h.flight.sent) m s) → (more : SendsMore m h.flight h.own back answer s) → (p < drive_party m → DriveTook view (IsBrought m s more.sent) m s)
       → (drive_party m ≡ p → DriveDid view (λ g out. CameAs right h.flight.sent g × (out ≡ Source more.sent)) m s) → RelayEnd view m h answer s
   went_on right back is near more far said =
@@ -277,7 +277,7 @@ module _ {M : Type 0} (view : M → MediumView) (m s : RingView M) (h : IsHoldin
       }))
       more.end
 
-  -- it ended behind the right echo
+  -- it ended after the right echo
   ended : (back : Frame) → (drive_party m ≤ p → DriveHad view (CameAs true h.flight.sent) m s) → (p < drive_party m → DriveTook view (λ g. g ≡ eto) m s)
       → (drive_party m ≡ p → DriveDid view (λ g out. CameAs true h.flight.sent g × (out ≡ Source eto)) m s) → (h.flight.altered ≡ false) × (with_service back ≡ with_service h.flight.sent) → EndsSending m h.flight true back answer s → RelayEnd view m h answer s
   ended back near far said right ends =
@@ -311,7 +311,7 @@ module _ {M : Type 0} (view : M → MediumView) (m s : RingView M) (h : IsHoldin
       }))
       ends.end
 
-  -- or behind the wrong one
+  -- or after the wrong one
   refused_at : (back : Frame) (end : Outcome) → (drive_party m ≤ p → DriveHad view (CameAs false h.flight.sent) m s) → (p < drive_party m → DriveTook view (λ g. g ≡ ete) m s)
       → (drive_party m ≡ p → DriveDid view (λ g out. CameAs false h.flight.sent g × (out ≡ Source ete)) m s) → (byte_of back ≢ byte_of h.flight.sent) × ((h.flight.altered ≡ true) ⊎ (met_between m s ≢ [])) → is_end 0 end ≡ true
       → (answer ≡ arrival.Lost) ⊎ (answer ≡ arrival.Frame ete) → s.books.log ≡ m.books.log ++ (echoed p (echo_of back) ∷ entry p ete end ∷ []) → s.books.held ≡ None → RelayEnd view m h answer s
@@ -368,13 +368,13 @@ frame_in f arrival.Lost = f
 same_frame : (f g : Frame) (answer : Arrival) → answer ≡ arrival.Frame f → answer ≡ arrival.Frame g → f ≡ g
 same_frame f g answer first second = ap (frame_in f) (sym first ∙ second)
 
-pub relay_done : {M : Type 0} (view : M → MediumView) (m s : RingView M) (held : Option Flight) (answer : Arrival) (how : Onward) → (IsUnderHost m.guest → IfSome held (λ f. Round view m None f answer s)) → m.books.held ≡ held → IsOnward answer how → WentAs view m how s
+pub relay_done : {M : Type 0} (view : M → MediumView) (m s : RingView M) (held : Option Flight) (answer : Arrival) (how : Onward) → (IsUnderHost m.guest → IfSome held (λ f. Round view m None f answer s)) → m.books.held ≡ held → IsOnward answer how → RelaysAs view m how s
 relay_done view m s held answer how round is told = by how told
   where
     end : (h : IsHolding m) → RelayEnd view m h answer s
     end h = relay_end view m s h answer (subst (λ held. IfSome held (λ f. Round view m None f answer s)) (sym is ∙ h.held) (round h.host))
 
-    by : (how : Onward) → IsOnward answer how → WentAs view m how s
+    by : (how : Onward) → IsOnward answer how → RelaysAs view m how s
     by onward.More told = λ h. elim (end h) [
       | ItWentOn g is data_frame went ↦ went
       | ItEnded is end ↦ (let same = same_frame told.0 eto answer told.1 is in let clash = sym told.2 ∙ ap is_data same in cc)

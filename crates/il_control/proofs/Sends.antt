@@ -1,4 +1,4 @@
--- A send that goes on: byte behind byte it is one exchange.
+-- A send that goes on: byte after byte it is one exchange.
 use Rattle.std.proofs.Common.{◌≡◌, ◌∙◌, ◌++◌, ◌&&◌, ℕ, true, List, [], ◌∷◌, Option, map, refl, sym, ap, subst, append_assoc, eq-eqb}
 use Rattle.std.specs.List.{list_all}
 use Rattle.std.proofs.lemmas.Bool.{and_parts, and_from}
@@ -11,7 +11,7 @@ use Rattle.il_frames.specs.NamedFrames.{unl, lad, ddl}
 use Rattle.loop_model.specs.Exchanges.{Echo, Send, echoed, commanded, numbered, entries_of, is_exchange, is_host_echo, is_address, is_number}
 use Rattle.il_ring.specs.Rings.{RingView}
 use Rattle.il_control.specs.Calls.{Whole, Broke, IsIdle, loop_of, Made, BrokenOff, sent_as, Sent, NotSent}
-use Rattle.il_control.proofs.Calls.{whole_then, broke_behind}
+use Rattle.il_control.proofs.Calls.{whole_then, broke_after}
 use Rattle.il_control.proofs.Made.{made, quiet_broken_off}
 use Rattle.il_control.proofs.HeldAtEnd.{send_quiet}
 
@@ -44,6 +44,6 @@ own_echo byte = eq-eqb byte byte refl
 pub send_breaks : {M : Type 0} (view : M → MediumView) (a : ℕ) (number : Option ℕ) (ds : List Echo) (byte : ℕ) (r m s : RingView M) → IsIdle r → Made view (Send a number ds) r m → NotSent view byte m s → BrokenOff view (Send a number (ds ++ sent_as byte (framed class.Dab byte) ∷ [])) r s
 send_breaks view a number ds byte r m s idle before not_sent =
     let d = sent_as byte (framed class.Dab byte) in
-    let broke = broke_behind view r m s (entries_of 0 (Send a number ds)) (echoed 0 d ∷ []) idle.free.ring before.whole not_sent.broke in
+    let broke = broke_after view r m s (entries_of 0 (Send a number ds)) (echoed 0 d ∷ []) idle.free.ring before.whole not_sent.broke in
     let legal = more_legal r a number ds d before.legal (own_echo byte) in
     quiet_broken_off view (Send a number (ds ++ d ∷ [])) r s idle legal refl (send_quiet a number (ds ++ d ∷ []) (and_parts (is_number number) (list_all is_host_echo (ds ++ d ∷ [])) (and_parts (is_address a) (is_number number && list_all is_host_echo (ds ++ d ∷ [])) legal).1).1) (subst (λ es. Broke view r es s) (more_entries a number ds d) broke)

@@ -41,14 +41,14 @@ use Rattle.il_ring.proofs.SendLaws.{kept_sent}
 use Rattle.il_ring.proofs.Splits.{silent_still}
 use Rattle.il_control.specs.Calls.{Unheard}
 use Rattle.il_control.specs.Brought.{Brought, CutBrought}
-use Rattle.il_control.specs.Receives.{AddsBy, AllSpoken, Brings, IsDeaf, IsHolding, Spoilt, WentOn, Ended, DueAt, AtHeld, AtNext, AtEnd, Severed, WentAs, Took, NotTook, Stops, own_frames}
+use Rattle.il_control.specs.Receives.{AddsBy, AllSpoken, Brings, IsDeaf, IsHolding, ReachesFault, RelaysNext, Ended, DueAt, AtHeld, AtNext, AtEnd, RelayBroken, RelaysAs, TakesWhole, TakesBroken, Stops, own_frames}
 use Rattle.il_control.specs.declared.receiving.Onward.{Onward}
 use Rattle.il_control.specs.declared.receiving.Onward.TheVariants as onward
 use Rattle.il_control.proofs.Asking.{each_obeys}
 use Rattle.il_control.proofs.Calls.{met_parts, unheard_then}
 use Rattle.il_control.proofs.Brought.{cut_brought_one, may_come, plain_comes, same_place}
 use Rattle.il_control.proofs.Relaying.{deaf_unheard, right_echo, spoken_one}
-use Rattle.il_control.proofs.Spoken.{brings_more, cut_behind_brought, spoken_then, added_as}
+use Rattle.il_control.proofs.Spoken.{brings_more, cut_after_brought, spoken_then, added_as}
 use Rattle.il_control.proofs.HeldAtEnd.{stopped_holds_none}
 use Rattle.il_control.proofs.Taking.{breaks_at, is_device, one_device, severed_at}
 
@@ -57,44 +57,44 @@ use Rattle.il_control.proofs.Taking.{breaks_at, is_device, one_device, severed_a
 record Apart (R : DeviceState → DeviceState → Type 0) (bs cs : List DeviceState) (d : DeviceState) (es : List DeviceState) : Type 0 where
   before : List DeviceState
   here : DeviceState
-  behind : List DeviceState
-  all : es ≡ before ++ here ∷ behind
+  after : List DeviceState
+  all : es ≡ before ++ here ∷ after
   same : length before ≡ length bs
   before_took : First R (length bs) bs before
   here_took : R d here
-  behind_took : First R (length cs) cs behind
+  after_took : First R (length cs) cs after
 
 apart : (R : DeviceState → DeviceState → Type 0) (bs cs : List DeviceState) (d : DeviceState) (es : List DeviceState) → First R (length (bs ++ d ∷ cs)) (bs ++ d ∷ cs) es → Apart R bs cs d es
-apart R [] cs d (e ∷ es) took = record { before = []; here = e; behind = es; all = refl; same = refl; before_took = tt; here_took = took.0; behind_took = took.1 }
+apart R [] cs d (e ∷ es) took = record { before = []; here = e; after = es; all = refl; same = refl; before_took = tt; here_took = took.0; after_took = took.1 }
 apart R [] cs d [] took = absurd took
 apart R (b ∷ bs) cs d (e ∷ es) took =
     let more = apart R bs cs d es took.1 in
     record {
       before = e ∷ more.before;
       here = more.here;
-      behind = more.behind;
+      after = more.after;
       all = ap (λ es. e ∷ es) more.all;
       same = ap suc more.same;
       before_took = (took.0, more.before_took);
       here_took = more.here_took;
-      behind_took = more.behind_took;
+      after_took = more.after_took;
     }
 apart R (b ∷ bs) cs d [] took = absurd took
 
--- behind NRD it talks still, and its frame is its last
+-- after NRD it talks still, and its frame is its last
 talks_stopped : (p : ℕ) (own : OwnFrame) (ds es : List DeviceState) → First (Obeys msg.Nrd) (length ds) ds es → IsTalking p (Some own) ds → IsTalking p (Some (record own { stopped = true })) es
 talks_stopped p own ds es took talking =
-    let parts = apart (Obeys msg.Nrd) talking.before talking.behind talking.talker es (subst (λ ds. First (Obeys msg.Nrd) (length ds) ds es) talking.devices_are took) in
+    let parts = apart (Obeys msg.Nrd) talking.before talking.after talking.talker es (subst (λ ds. First (Obeys msg.Nrd) (length ds) ds es) talking.devices_are took) in
     record {
       before = parts.before;
       talker = parts.here;
-      behind = parts.behind;
+      after = parts.after;
       devices_are = parts.all;
       party = talking.party ∙ ap (λ n. n + 1) (sym parts.same);
       silent = silent_still (Obeys msg.Nrd) (length talking.before) talking.before parts.before (λ d e obeys. obeys.roles) parts.before_took talking.silent;
       talks = ap (λ (r : Roles). r.talks) parts.here_took.roles ∙ talking.talks;
       own_is = parts.here_took.own ∙ ap stopped talking.own_is;
-      silent_behind = silent_still (Obeys msg.Nrd) (length talking.behind) talking.behind parts.behind (λ d e obeys. obeys.roles) parts.behind_took talking.silent_behind;
+      silent_after = silent_still (Obeys msg.Nrd) (length talking.after) talking.after parts.after (λ d e obeys. obeys.roles) parts.after_took talking.silent_after;
     }
 
 -- ---- NRD
@@ -110,7 +110,7 @@ pub record NrdBack {M : Type 0} (view : M → MediumView) (m : RingView M) (h : 
 
 pub data NrdEnd {M : Type 0} (view : M → MediumView) (m : RingView M) (h : IsHolding m) (answer : Arrival) (n : RingView M) : Type 0 where
   NrdCame : (g : Frame) → answer ≡ arrival.Frame g → NrdBack view m h n → NrdEnd view m h answer n
-  NrdLost : answer ≡ arrival.Lost → NotTook view m h 1 n → NrdEnd view m h answer n
+  NrdLost : answer ≡ arrival.Lost → TakesBroken view m h 1 n → NrdEnd view m h answer n
 
 own_last : {M : Type 0} (m : RingView M) (h : IsHolding m) (d : Echo) → is_echo d ≡ true → is_answer 0 (Stopped h.flight.source [] d) ≡ true
 own_last m h d echo = and_from (not (h.flight.source == 0)) (true && is_echo d) (is_device m h) (and_from true (is_echo d) refl echo)
@@ -210,18 +210,18 @@ module _ {M : Type 0} (view : M → MediumView) (m n : RingView M) (h : IsHoldin
       (λ gone. lost gone)
       passed.end
 
--- ---- behind it
+-- ---- after it
 
 -- a cut, with NRD before it
-behind_nrd : {M : Type 0} (view : M → MediumView) (m n s : RingView M) (p : ℕ) (es ys : List Entry) (c : ℕ) → Brings view m p (λ gs. gs ≡ []) (Some p) (returned 0 nrd ∷ []) (Some p) n → AddsBy view n p (Some p) es None (λ k q gs outs. CutBrought k q ys c gs) s
+after_nrd : {M : Type 0} (view : M → MediumView) (m n s : RingView M) (p : ℕ) (es ys : List Entry) (c : ℕ) → Brings view m p (λ gs. gs ≡ []) (Some p) (returned 0 nrd ∷ []) (Some p) n → AddsBy view n p (Some p) es None (λ k q gs outs. CutBrought k q ys c gs) s
     → AddsBy view m p (Some p) (returned 0 nrd ∷ es) None (λ k q gs outs. CutBrought k q (returned 0 nrd ∷ ys) (suc c) gs) s
-behind_nrd view m n s p es ys c first more =
+after_nrd view m n s p es ys c first more =
     let came = adds_more-came view m n s (Some p) (Some p) None (returned 0 nrd ∷ []) es first.adds more.adds in
     let party : drive_party n ≡ drive_party m = ap (λ n. n + 1) first.adds.before in
     record {
       adds = adds_more view m n s (Some p) (Some p) None (returned 0 nrd ∷ []) es first.adds more.adds;
       near = λ near. subst (CutBrought (length (devices_of m)) (drive_party m) (returned 0 nrd ∷ ys) (suc c)) (sym came)
-          (cut_behind_brought (length (devices_of m)) (drive_party m) c (returned 0 nrd ∷ []) ys first.adds.came more.adds.came (first.near near).0
+          (cut_after_brought (length (devices_of m)) (drive_party m) c (returned 0 nrd ∷ []) ys first.adds.came more.adds.came (first.near near).0
           (same_place m n (λ k q. CutBrought k q ys c more.adds.came) first.adds.before first.adds.size (more.near (subst (λ q. q ≤ p) (sym party) near))));
       far = λ far. subst AllSpoken (sym came) (spoken_then first.adds.came more.adds.came (first.far far) (more.far (subst (λ q. p < q) (sym party) far)));
     }
@@ -236,9 +236,9 @@ module _ {M : Type 0} (view : M → MediumView) (m n s : RingView M) (h : IsHold
   same : k.flight ≡ h.flight
   same = back.flight_is
 
-  -- what was added behind NRD, with it
-  brings_behind : (es : List Entry) (S : List Frame → Type 0) → Brings view n k.flight.source S (Some k.flight.source) es None s → Brings view m p S (Some p) (returned 0 nrd ∷ es) None s
-  brings_behind es S more = brings_more view m n p (λ gs. gs ≡ []) (Some p) (Some p) (returned 0 nrd ∷ []) back.added s S S None es (subst (λ (f : Flight). Brings view n f.source S (Some f.source) es None s) same more) (λ gs hs none said. subst (λ gs. S (gs ++ hs)) (sym none) said)
+  -- what was added after NRD, with it
+  brings_after : (es : List Entry) (S : List Frame → Type 0) → Brings view n k.flight.source S (Some k.flight.source) es None s → Brings view m p S (Some p) (returned 0 nrd ∷ es) None s
+  brings_after es S more = brings_more view m n p (λ gs. gs ≡ []) (Some p) (Some p) (returned 0 nrd ∷ []) back.added s S S None es (subst (λ (f : Flight). Brings view n f.source S (Some f.source) es None s) same more) (λ gs hs none said. subst (λ gs. S (gs ++ hs)) (sym none) said)
 
   split : (es : List Entry) → Adds view n (Some k.flight.source) es None s → (met_between m s ≡ [] → (met_between m n ≡ []) × (met_between n s ≡ [])) × (((met_between m n ≡ []) × (met_between n s ≡ [])) → met_between m s ≡ [])
   split es more = met_parts view m n s (Some p) (Some p) (Some p) None (returned 0 nrd ∷ []) es h.ring k.ring back.added.adds (subst (λ (f : Flight). Adds view n (Some f.source) es None s) same more)
@@ -246,7 +246,7 @@ module _ {M : Type 0} (view : M → MediumView) (m n s : RingView M) (h : IsHold
   all_unheard : Unheard n s → Unheard m s
   all_unheard more = unheard_then (devices_of m) (devices_of n) (devices_of s) back.unheard more
 
-  pub stopped_took : Ended view n k s → Took view m h true (byte_of h.flight.sent ∷ []) s
+  pub stopped_took : Ended view n k s → TakesWhole view m h true (byte_of h.flight.sent ∷ []) s
   stopped_took ended =
       let d : Echo = record { sent = k.flight.sent; back = ended.back } in
       let spread = ap (λ (f : Flight). f.source) same in
@@ -258,33 +258,33 @@ module _ {M : Type 0} (view : M → MediumView) (m n s : RingView M) (h : IsHold
         bytes_are = refl;
         alone = λ last. refl;
         added = subst (λ (f : Flight). Brings view m p (λ gs. h.flight.sent ∷ gs ≡ h.flight.sent ∷ eto ∷ []) (Some p) (returned 0 nrd ∷ echoed f.source (record { sent = f.sent; back = ended.back }) ∷ entry f.source eto (outcome.Taken 0) ∷ []) None s) same
-            (added_as view m s p (Some p) _ None _ _ (brings_behind _ (λ gs. gs ≡ eto ∷ []) ended.added) (λ j q gs outs said. (said.0, λ at. ap (λ gs. h.flight.sent ∷ gs) (said.1 at))));
+            (added_as view m s p (Some p) _ None _ _ (brings_after _ (λ gs. gs ≡ eto ∷ []) ended.added) (λ j q gs outs said. (said.0, λ at. ap (λ gs. h.flight.sent ∷ gs) (said.1 at))));
         ring = ended.ring;
         held = ended.held;
         clean = (ap (λ (f : Flight). f.altered) (sym same) ∙ ended.clean.0, (split _ ended.added.adds).1 (back.met_none, ended.clean.1));
         unheard = all_unheard ended.unheard;
       }
 
-  spoilt_behind : (es : List Entry) → Adds view n (Some k.flight.source) es None s → Spoilt n k s → Spoilt m h s
-  spoilt_behind es more spoilt = ⊎_elim (λ altered. inl (ap (λ (f : Flight). f.altered) (sym same) ∙ altered)) (λ some. inr (λ none. some ((split es more).0 none).1)) spoilt
+  spoilt_after : (es : List Entry) → Adds view n (Some k.flight.source) es None s → ReachesFault n k s → ReachesFault m h s
+  spoilt_after es more spoilt = ⊎_elim (λ altered. inl (ap (λ (f : Flight). f.altered) (sym same) ∙ altered)) (λ some. inr (λ none. some ((split es more).0 none).1)) spoilt
 
-  pub stopped_broke : Severed view n k s → NotTook view m h 1 s
+  pub stopped_broke : RelayBroken view n k s → TakesBroken view m h 1 s
   stopped_broke off = by off.due_at
     where
       at_source : k.flight.source ≡ p
       at_source = ap (λ (f : Flight). f.source) same
 
-      -- the cut behind NRD
+      -- the cut after NRD
       added : (whole : List Echo) (due : Entry) → off.whole ≡ whole → off.due ≡ due → AddsBy view m p (Some p) (returned 0 nrd ∷ map (echoed k.flight.source) whole ++ break_entries due off.break) None (λ j q gs outs. CutBrought j q (returned 0 nrd ∷ map (echoed k.flight.source) whole ++ due ∷ []) (suc (length whole)) gs) s
       added whole due whole_is due_is =
-          behind_nrd view m n s p (map (echoed k.flight.source) whole ++ break_entries due off.break) (map (echoed k.flight.source) whole ++ due ∷ []) (length whole) back.added
+          after_nrd view m n s p (map (echoed k.flight.source) whole ++ break_entries due off.break) (map (echoed k.flight.source) whole ++ due ∷ []) (length whole) back.added
           (subst (λ q. AddsBy view n q (Some q) (map (echoed k.flight.source) whole ++ break_entries due off.break) None (λ j q gs outs. CutBrought j q (map (echoed k.flight.source) whole ++ due ∷ []) (length whole) gs) s) at_source (severed_at view n s k off whole due whole_is due_is))
 
-      by : DueAt k.flight.source k.own off.whole off.due → NotTook view m h 1 s
+      by : DueAt k.flight.source k.own off.whole off.due → TakesBroken view m h 1 s
       by (AtHeld d echo whole due) =
           let due_is : off.due ≡ echoed p d = due ∙ ap (λ p. echoed p d) at_source in
           breaks_at view m s h 1 (Stopped p [] d) (returned 0 nrd ∷ []) (entry p eto (outcome.Taken 0) ∷ []) (echoed p d) off.break None refl (own_last m h d echo) refl refl
-          (subst (λ due. is_break 0 due off.break ≡ true) due_is off.legal) (stopped_holds_none (Some p) [] (echoed p d) off.break refl (is_device m h)) (added [] (echoed p d) whole due_is) off.ring off.held (spoilt_behind _ off.added.adds off.spoilt) (all_unheard off.unheard)
+          (subst (λ due. is_break 0 due off.break ≡ true) due_is off.legal) (stopped_holds_none (Some p) [] (echoed p d) off.break refl (is_device m h)) (added [] (echoed p d) whole due_is) off.ring off.held (spoilt_after _ off.added.adds off.spoilt) (all_unheard off.unheard)
       by (AtNext c d first echo goes_on whole due) = let clash : true ≡ false = sym (ap (λ stopped. stopped || k.own.last) back.stops) ∙ goes_on in cc
       by (AtEnd d echo whole due) =
           let due_is : off.due ≡ entry p eto (outcome.Taken 0) = due ∙ ap (λ p. entry p eto (outcome.Taken 0)) at_source in
@@ -292,9 +292,9 @@ module _ {M : Type 0} (view : M → MediumView) (m n s : RingView M) (h : IsHold
           (subst (λ due. is_break 0 due off.break ≡ true) due_is off.legal)
           (stopped_holds_none (Some p) (echoed p d ∷ []) (entry p eto (outcome.Taken 0)) off.break (one_device m h) (is_device m h))
           (subst (λ q. AddsBy view m p (Some p) (returned 0 nrd ∷ echoed q d ∷ break_entries (entry p eto (outcome.Taken 0)) off.break) None (λ j r gs outs. CutBrought j r (returned 0 nrd ∷ echoed q d ∷ entry p eto (outcome.Taken 0) ∷ []) 2 gs) s) at_source (added (d ∷ []) (entry p eto (outcome.Taken 0)) whole due_is))
-          off.ring off.held (spoilt_behind _ off.added.adds off.spoilt) (all_unheard off.unheard)
+          off.ring off.held (spoilt_after _ off.added.adds off.spoilt) (all_unheard off.unheard)
 
-  pub stopped_went : WentOn view n k s → ⊥
+  pub stopped_went : RelaysNext view n k s → ⊥
   stopped_went went = let clash : true ≡ false = sym (ap (λ stopped. stopped || k.own.last) back.stops) ∙ went.goes_on in cc
 
 -- ---- as a call
@@ -317,13 +317,13 @@ stop_lost view m n held f answer round is stood lost = λ h. elim (nrd_sent view
 pub stop_held : {M : Type 0} (view : M → MediumView) (m n : RingView M) (h : IsHolding m) (held : Option Flight) (f g : Frame) (answer : Arrival) → Round view m held (sourced 0 f) answer n → f ≡ nrd → m.books.held ≡ held → answer ≡ arrival.Frame g → IsSome n.books.held
 stop_held view m n h held f g answer round is stood arrives = let back = came_back view m n h g answer (nrd_sent view m n h held f answer round is stood) arrives in subst IsSome (sym back.next.held) refl
 
-pub stop_ended : {M : Type 0} (view : M → MediumView) (m n s : RingView M) (held : Option Flight) (f g : Frame) (answer : Arrival) → Round view m held (sourced 0 f) answer n → f ≡ nrd → m.books.held ≡ held → answer ≡ arrival.Frame g → WentAs view n onward.Ended s → Stops view m true s
+pub stop_ended : {M : Type 0} (view : M → MediumView) (m n s : RingView M) (held : Option Flight) (f g : Frame) (answer : Arrival) → Round view m held (sourced 0 f) answer n → f ≡ nrd → m.books.held ≡ held → answer ≡ arrival.Frame g → RelaysAs view n onward.Ended s → Stops view m true s
 stop_ended view m n s held f g answer round is stood arrives went = λ h. let back = came_back view m n h g answer (nrd_sent view m n h held f answer round is stood) arrives in stopped_took view m n s h back (went back.next)
 
-pub stop_broke : {M : Type 0} (view : M → MediumView) (m n s : RingView M) (held : Option Flight) (f g : Frame) (answer : Arrival) (how : Onward) → Round view m held (sourced 0 f) answer n → f ≡ nrd → m.books.held ≡ held → answer ≡ arrival.Frame g → WentAs view n how s → (how ≡ onward.Ended → ⊥) → Stops view m false s
+pub stop_broke : {M : Type 0} (view : M → MediumView) (m n s : RingView M) (held : Option Flight) (f g : Frame) (answer : Arrival) (how : Onward) → Round view m held (sourced 0 f) answer n → f ≡ nrd → m.books.held ≡ held → answer ≡ arrival.Frame g → RelaysAs view n how s → (how ≡ onward.Ended → ⊥) → Stops view m false s
 stop_broke view m n s held f g answer how round is stood arrives went not_ended = λ h. by how went not_ended h (came_back view m n h g answer (nrd_sent view m n h held f answer round is stood) arrives)
   where
-    by : (how : Onward) → WentAs view n how s → (how ≡ onward.Ended → ⊥) → (h : IsHolding m) → NrdBack view m h n → NotTook view m h 1 s
+    by : (how : Onward) → RelaysAs view n how s → (how ≡ onward.Ended → ⊥) → (h : IsHolding m) → NrdBack view m h n → TakesBroken view m h 1 s
     by onward.More went not_ended h back = absurd (stopped_went view m n s h back (went back.next))
     by onward.Ended went not_ended h back = absurd (not_ended refl)
     by onward.Broken went not_ended h back = stopped_broke view m n s h back (went back.next)

@@ -1,4 +1,4 @@
--- The frames of a talker, one behind the other.
+-- The frames of a talker, one after the other.
 use Rattle.il_frames.specs.declared.frame.Frame.{Frame}
 use Rattle.std.proofs.Common.{◌||◌, ◌≡◌, ◌≢◌, ◌∙◌, ◌≤◌, ◌<◌, ◌+◌, ◌-◌, ◌++◌, ◌&&◌, ◌==◌, inl, inr, ⊎_elim, ℕ, suc, Bool, true, false, not, List, [], ◌∷◌, Option, Some, None, length, take, drop, set, map, refl, sym, ap, ap₂, subst, arith, append_assoc, append-nil, length-append}
 use Rattle.std.proofs.Math.Seq.{take-suc-set, take-length}
@@ -21,12 +21,12 @@ use Rattle.il_ring.specs.Outcomes.{met_between}
 use Rattle.il_ring.proofs.Faults.{met_nowhere}
 use Rattle.il_control.specs.Calls.{Unheard}
 use Rattle.il_control.specs.Brought.{CutBrought}
-use Rattle.il_control.specs.Receives.{AddsBy, Brings, CutBrings, IsHolding, Spoilt, Clean, WentOn, Ended, DueAt, AtHeld, AtNext, AtEnd, Severed, SoFar, Took, NotTook, WentAs, FrontAt, Fronts, Stops, TookInto, behind_start, talker_of, is_stopped, received, fits, frames_of, sent_frames}
+use Rattle.il_control.specs.Receives.{AddsBy, Brings, CutBrings, IsHolding, ReachesFault, ReachesNoFault, RelaysNext, Ended, DueAt, AtHeld, AtNext, AtEnd, RelayBroken, TakesSoFar, TakesWhole, TakesBroken, RelaysAs, FrontAt, Fronts, Stops, TakesInto, after_start, talker_of, is_stopped, received, fits, frames_of, sent_frames}
 use Rattle.il_control.specs.declared.receiving.Front.TheVariants as front
 use Rattle.il_control.specs.declared.receiving.Onward.TheVariants as onward
 use Rattle.il_control.proofs.HeldAtEnd.{cut_held, echoes_source, severed_holds_none}
 use Rattle.il_control.proofs.Calls.{met_parts, unheard_then, unheard_nothing}
-use Rattle.il_control.proofs.Spoken.{added_as, behind_all, brings_nothing, brings_more, cut_brings_more, cut_entries, cut_legal, cut_more}
+use Rattle.il_control.proofs.Spoken.{added_as, after_all, brings_nothing, brings_more, cut_brings_more, cut_entries, cut_legal, cut_more}
 
 -- ---- more data frames before those of an answer
 
@@ -45,9 +45,9 @@ prepended_stopped ds NotTaken = refl
 prepended_stopped ds (ToItsEnd p es) = refl
 prepended_stopped ds (Stopped p es last) = refl
 
-some_data_behind : (ds es : List Echo) → is_some_data es ≡ true → is_some_data (ds ++ es) ≡ true
-some_data_behind [] es some = some
-some_data_behind (d ∷ ds) es some = refl
+some_data_after : (ds es : List Echo) → is_some_data es ≡ true → is_some_data (ds ++ es) ≡ true
+some_data_after [] es some = some
+some_data_after (d ∷ ds) es some = refl
 
 prepended_legal : (ds : List Echo) (answer : Answer) → list_all is_echo ds ≡ true → is_answer 0 answer ≡ true → is_answer 0 (prepended ds answer) ≡ true
 prepended_legal ds NotTaken echoes legal = refl
@@ -55,24 +55,24 @@ prepended_legal ds (ToItsEnd p es) echoes legal =
     let parts = and_parts (not (p == 0)) (is_some_data es && list_all is_echo es) legal in
     let more = and_parts (is_some_data es) (list_all is_echo es) parts.1 in
     and_from (not (p == 0)) (is_some_data (ds ++ es) && list_all is_echo (ds ++ es)) parts.0
-    (and_from (is_some_data (ds ++ es)) (list_all is_echo (ds ++ es)) (some_data_behind ds es more.0) (list_all-append is_echo ds es ∙ and_from (list_all is_echo ds) (list_all is_echo es) echoes more.1))
+    (and_from (is_some_data (ds ++ es)) (list_all is_echo (ds ++ es)) (some_data_after ds es more.0) (list_all-append is_echo ds es ∙ and_from (list_all is_echo ds) (list_all is_echo es) echoes more.1))
 prepended_legal ds (Stopped p es last) echoes legal =
     let parts = and_parts (not (p == 0)) (list_all is_echo es && is_echo last) legal in
     let more = and_parts (list_all is_echo es) (is_echo last) parts.1 in
     and_from (not (p == 0)) (list_all is_echo (ds ++ es) && is_echo last) parts.0
     (and_from (list_all is_echo (ds ++ es)) (is_echo last) (list_all-append is_echo ds es ∙ and_from (list_all is_echo ds) (list_all is_echo es) echoes more.0) more.1)
 
-prepended_entries : (ds : List Echo) (answer : Answer) (p : ℕ) → talker_of answer ≡ Some p → behind_start (prepended ds answer) ≡ map (echoed p) ds ++ behind_start answer
+prepended_entries : (ds : List Echo) (answer : Answer) (p : ℕ) → talker_of answer ≡ Some p → after_start (prepended ds answer) ≡ map (echoed p) ds ++ after_start answer
 prepended_entries ds NotTaken p is = cc
 prepended_entries ds (ToItsEnd q es) p is =
     let same : q ≡ p = cc in
     ap (λ xs. xs ++ entry q eto (outcome.Taken 0) ∷ []) (map-append (echoed q) ds es) ∙ append_assoc (map (echoed q) ds) (map (echoed q) es) (entry q eto (outcome.Taken 0) ∷ [])
-    ∙ ap (λ p. map (echoed p) ds ++ behind_start (ToItsEnd q es)) same
+    ∙ ap (λ p. map (echoed p) ds ++ after_start (ToItsEnd q es)) same
 prepended_entries ds (Stopped q es last) p is =
     let same : q ≡ p = cc in
     ap (λ xs. xs ++ returned 0 nrd ∷ echoed q last ∷ entry q eto (outcome.Taken 0) ∷ []) (map-append (echoed q) ds es)
     ∙ append_assoc (map (echoed q) ds) (map (echoed q) es) (returned 0 nrd ∷ echoed q last ∷ entry q eto (outcome.Taken 0) ∷ [])
-    ∙ ap (λ p. map (echoed p) ds ++ behind_start (Stopped q es last)) same
+    ∙ ap (λ p. map (echoed p) ds ++ after_start (Stopped q es last)) same
 
 prepended_bytes : (ds : List Echo) (answer : Answer) (p : ℕ) → talker_of answer ≡ Some p → received (prepended ds answer) ≡ bytes_of ds ++ received answer
 prepended_bytes ds NotTaken p is = cc
@@ -92,7 +92,7 @@ prepended_fits ds (Stopped q es last) v w sum fit = let long = length-append ds 
 -- ---- so far
 
 -- nothing
-pub so_far_nothing : {M : Type 0} (view : M → MediumView) (m : RingView M) (h : IsHolding m) → SoFar view m h [] m
+pub so_far_nothing : {M : Type 0} (view : M → MediumView) (m : RingView M) (h : IsHolding m) → TakesSoFar view m h [] m
 so_far_nothing view m h = record {
   ds = [];
   echoes = refl;
@@ -105,7 +105,7 @@ so_far_nothing view m h = record {
   unheard = unheard_nothing m;
 }
   where
-    by : (altered : Bool) → h.flight.altered ≡ altered → MatchBool altered (Spoilt m h m) (Clean m h m)
+    by : (altered : Bool) → h.flight.altered ≡ altered → MatchBool altered (ReachesFault m h m) (ReachesNoFault m h m)
     by true is = inl is
     by false is = (is, met_nowhere (hops_of m.books.plan) m.books.crossings)
 
@@ -113,12 +113,12 @@ so_far_nothing view m h = record {
 pub byte_sent : {M : Type 0} (m : RingView M) (h : IsHolding m) → h.flight.altered ≡ false → byte_of h.flight.now ≡ byte_of h.flight.sent
 byte_sent m h unaltered = ap byte_of (h.stood.same unaltered)
 
--- it was clean where the held frame is not altered
-was_clean : {M : Type 0} (view : M → MediumView) (m s : RingView M) (h : IsHolding m) (bytes : List ℕ) (so : SoFar view m h bytes s) → so.now.flight.altered ≡ false → Clean m h s
-was_clean view m s h bytes so unaltered = subst (λ altered. MatchBool altered (Spoilt m h s) (Clean m h s)) unaltered so.met
+-- it was clean if the held frame is not altered
+was_clean : {M : Type 0} (view : M → MediumView) (m s : RingView M) (h : IsHolding m) (bytes : List ℕ) (so : TakesSoFar view m h bytes s) → so.now.flight.altered ≡ false → ReachesNoFault m h s
+was_clean view m s h bytes so unaltered = subst (λ altered. MatchBool altered (ReachesFault m h s) (ReachesNoFault m h s)) unaltered so.met
 
-was_spoilt : {M : Type 0} (view : M → MediumView) (m s : RingView M) (h : IsHolding m) (bytes : List ℕ) (so : SoFar view m h bytes s) → so.now.flight.altered ≡ true → Spoilt m h s
-was_spoilt view m s h bytes so altered = subst (λ altered. MatchBool altered (Spoilt m h s) (Clean m h s)) altered so.met
+was_spoilt : {M : Type 0} (view : M → MediumView) (m s : RingView M) (h : IsHolding m) (bytes : List ℕ) (so : TakesSoFar view m h bytes s) → so.now.flight.altered ≡ true → ReachesFault m h s
+was_spoilt view m s h bytes so altered = subst (λ altered. MatchBool altered (ReachesFault m h s) (ReachesNoFault m h s)) altered so.met
 
 -- a talker that goes on did not send its last frame
 not_last : (stopped last : Bool) → last ≡ true → (stopped || last) ≡ false → ⊥
@@ -126,7 +126,7 @@ not_last true last is goes_on = cc
 not_last false last is goes_on = cc
 
 -- one byte more
-pub so_far_more : {M : Type 0} (view : M → MediumView) (m n s : RingView M) (h : IsHolding m) (bytes : List ℕ) (byte : ℕ) (so : SoFar view m h bytes n) → WentOn view n so.now s → byte ≡ byte_of so.now.flight.now → SoFar view m h (bytes ++ byte ∷ []) s
+pub so_far_more : {M : Type 0} (view : M → MediumView) (m n s : RingView M) (h : IsHolding m) (bytes : List ℕ) (byte : ℕ) (so : TakesSoFar view m h bytes n) → RelaysNext view n so.now s → byte ≡ byte_of so.now.flight.now → TakesSoFar view m h (bytes ++ byte ∷ []) s
 so_far_more view m n s h bytes byte so went is_byte =
     let p = h.flight.source in
     let d : Echo = record { sent = so.now.flight.sent; back = went.back } in
@@ -148,23 +148,23 @@ so_far_more view m n s h bytes byte so went is_byte =
       unheard = unheard_then (devices_of m) (devices_of n) (devices_of s) so.unheard went.unheard;
     }
   where
-    by : (altered : Bool) → MatchBool altered (met_between n s ≢ []) (met_between n s ≡ []) → Clean m h n
-        → (met_between m s ≡ [] → (met_between m n ≡ []) × (met_between n s ≡ [])) × (((met_between m n ≡ []) × (met_between n s ≡ [])) → met_between m s ≡ []) → MatchBool altered (Spoilt m h s) (Clean m h s)
+    by : (altered : Bool) → MatchBool altered (met_between n s ≢ []) (met_between n s ≡ []) → ReachesNoFault m h n
+        → (met_between m s ≡ [] → (met_between m n ≡ []) × (met_between n s ≡ [])) × (((met_between m n ≡ []) × (met_between n s ≡ [])) → met_between m s ≡ []) → MatchBool altered (ReachesFault m h s) (ReachesNoFault m h s)
     by true met clean split = inr (λ none. met (split.0 none).1)
     by false met clean split = (clean.0, split.1 (clean.1, met))
 
 -- ---- all
 
--- behind those so far
-pub took_then : {M : Type 0} (view : M → MediumView) (m n s : RingView M) (h : IsHolding m) (stops : Bool) (bytes more : List ℕ) (so : SoFar view m h bytes n) → Took view n so.now stops more s → Took view m h stops (bytes ++ more) s
+-- after those so far
+pub took_then : {M : Type 0} (view : M → MediumView) (m n s : RingView M) (h : IsHolding m) (stops : Bool) (bytes more : List ℕ) (so : TakesSoFar view m h bytes n) → TakesWhole view n so.now stops more s → TakesWhole view m h stops (bytes ++ more) s
 took_then view m n s h stops bytes more so took =
     let p = h.flight.source in
     let talker = took.talker ∙ ap (λ p. Some p) so.source in
     let T : List Frame → Type 0 = λ gs. so.now.flight.sent ∷ gs ≡ sent_frames took.answer ++ eto ∷ [] in
     let U : List Frame → Type 0 = λ gs. h.flight.sent ∷ gs ≡ sent_frames (prepended so.ds took.answer) ++ eto ∷ [] in
-    let after : Brings view n p T (Some p) (behind_start took.answer) None s = subst (λ p. Brings view n p T (Some p) (behind_start took.answer) None s) so.source took.added in
+    let after : Brings view n p T (Some p) (after_start took.answer) None s = subst (λ p. Brings view n p T (Some p) (after_start took.answer) None s) so.source took.added in
     let clean = was_clean view m n h bytes so took.clean.0 in
-    let split = met_parts view m n s (Some p) (Some p) (Some p) None (map (echoed p) so.ds) (behind_start took.answer) h.ring so.now.ring so.added.adds after.adds in
+    let split = met_parts view m n s (Some p) (Some p) (Some p) None (map (echoed p) so.ds) (after_start took.answer) h.ring so.now.ring so.added.adds after.adds in
     record {
       answer = prepended so.ds took.answer;
       talker = prepended_talker so.ds took.answer ∙ talker;
@@ -173,7 +173,7 @@ took_then view m n s h stops bytes more so took =
       alone = λ last. let so_alone = so.alone last in ap₂ (λ bytes more. bytes ++ more) so_alone.0 (took.alone so_alone.1) ∙ ap (λ f. byte_of f ∷ []) so_alone.2;
       bytes_are = ap (λ bytes. bytes ++ more) so.bytes_are ∙ ap (λ more. bytes_of so.ds ++ more) took.bytes_are ∙ sym (prepended_bytes so.ds took.answer p talker);
       added = subst (λ es. Brings view m p U (Some p) es None s) (sym (prepended_entries so.ds took.answer p talker))
-          (brings_more view m n p (λ gs. h.flight.sent ∷ gs ≡ frames_of so.ds ++ so.now.flight.sent ∷ []) (Some p) (Some p) (map (echoed p) so.ds) so.added s T U None (behind_start took.answer) after
+          (brings_more view m n p (λ gs. h.flight.sent ∷ gs ≡ frames_of so.ds ++ so.now.flight.sent ∷ []) (Some p) (Some p) (map (echoed p) so.ds) so.added s T U None (after_start took.answer) after
           (λ gs hs first last.
           ap (λ gs. gs ++ hs) first ∙ append_assoc (frames_of so.ds) (so.now.flight.sent ∷ []) hs ∙ ap (λ hs. frames_of so.ds ++ hs) last ∙ sym (append_assoc (frames_of so.ds) (sent_frames took.answer) (eto ∷ []))
           ∙ ap (λ gs. gs ++ eto ∷ []) (sym (prepended_frames so.ds took.answer p talker))));
@@ -189,16 +189,16 @@ is_device m h = ap not (ne_eqb h.flight.source 0 (λ e. omega (arith, e, h.talki
 pub one_device : {M : Type 0} (m : RingView M) (h : IsHolding m) → (not (h.flight.source == 0) && true) ≡ true
 one_device m h = and_from (not (h.flight.source == 0)) true (is_device m h) refl
 
-pub not_took_then : {M : Type 0} (view : M → MediumView) (m n s : RingView M) (h : IsHolding m) (bytes : List ℕ) (v w : ℕ) (so : SoFar view m h bytes n) → NotTook view n so.now v s → length bytes + v ≡ w → NotTook view m h w s
+pub not_took_then : {M : Type 0} (view : M → MediumView) (m n s : RingView M) (h : IsHolding m) (bytes : List ℕ) (v w : ℕ) (so : TakesSoFar view m h bytes n) → TakesBroken view n so.now v s → length bytes + v ≡ w → TakesBroken view m h w s
 not_took_then view m n s h bytes v w so not_took sum =
     let p = h.flight.source in
     let answer = not_took.answer in
     let talker = not_took.talker ∙ ap (λ p. Some p) so.source in
-    let cut = cut_at (behind_start answer) not_took.standing not_took.break in
-    let after : CutBrings view n p (Some p) (behind_start answer) not_took.standing not_took.break not_took.held_at_end s =
-    subst (λ p. CutBrings view n p (Some p) (behind_start answer) not_took.standing not_took.break not_took.held_at_end s) so.source not_took.added in
+    let cut = cut_at (after_start answer) not_took.standing not_took.break in
+    let after : CutBrings view n p (Some p) (after_start answer) not_took.standing not_took.break not_took.held_at_end s =
+    subst (λ p. CutBrings view n p (Some p) (after_start answer) not_took.standing not_took.break not_took.held_at_end s) so.source not_took.added in
     let split = met_parts view m n s (Some p) (Some p) (Some p) not_took.held_at_end (map (echoed p) so.ds) cut h.ring so.now.ring so.added.adds after.adds in
-    let standing = behind_all (map (echoed p) so.ds) not_took.standing in
+    let standing = after_all (map (echoed p) so.ds) not_took.standing in
     let entries = prepended_entries so.ds answer p talker in
     let many : length bytes ≡ length so.ds = ap length so.bytes_are ∙ length-map so.ds (λ (d : Echo). byte_of d.sent) in
     record {
@@ -208,17 +208,17 @@ not_took_then view m n s h bytes v w so not_took sum =
       fitting = prepended_fits so.ds answer v w (omega (arith, many, sum)) not_took.fitting;
       standing = standing;
       break = not_took.break;
-      cuts = ap (λ es. can_cut 0 es standing not_took.break) entries ∙ cut_legal (map (echoed p) so.ds) (behind_start answer) not_took.standing not_took.break ∙ not_took.cuts;
+      cuts = ap (λ es. can_cut 0 es standing not_took.break) entries ∙ cut_legal (map (echoed p) so.ds) (after_start answer) not_took.standing not_took.break ∙ not_took.cuts;
       held_at_end = not_took.held_at_end;
       ended =
           not_took.ended
           ∙ ap (λ p. held_after (Some p) cut) so.source
           ∙ ap (λ before. held_after before cut) (sym (echoes_source p so.ds (is_device m h)))
-          ∙ sym (cut_held (Some p) (map (echoed p) so.ds) (behind_start answer) not_took.standing not_took.break not_took.cuts)
-          ∙ ap (held_after (Some p)) (sym (cut_entries (map (echoed p) so.ds) (behind_start answer) not_took.standing not_took.break))
+          ∙ sym (cut_held (Some p) (map (echoed p) so.ds) (after_start answer) not_took.standing not_took.break not_took.cuts)
+          ∙ ap (held_after (Some p)) (sym (cut_entries (map (echoed p) so.ds) (after_start answer) not_took.standing not_took.break))
           ∙ ap (λ es. held_after (Some p) (cut_at es standing not_took.break)) (sym entries);
       added = subst (λ es. CutBrings view m p (Some p) es standing not_took.break not_took.held_at_end s) (sym entries)
-          (cut_brings_more view m n p (λ gs. h.flight.sent ∷ gs ≡ frames_of so.ds ++ so.now.flight.sent ∷ []) (Some p) (Some p) (map (echoed p) so.ds) so.added s not_took.held_at_end (behind_start answer) not_took.standing not_took.break after);
+          (cut_brings_more view m n p (λ gs. h.flight.sent ∷ gs ≡ frames_of so.ds ++ so.now.flight.sent ∷ []) (Some p) (Some p) (map (echoed p) so.ds) so.added s not_took.held_at_end (after_start answer) not_took.standing not_took.break after);
       ring = not_took.ring;
       held = not_took.held;
       spoilt =
@@ -231,8 +231,8 @@ not_took_then view m n s h bytes v w so not_took sum =
 
 -- ---- the last step of itself
 
--- the talker ended behind one byte
-pub ended_took : {M : Type 0} (view : M → MediumView) (m s : RingView M) (h : IsHolding m) (byte : ℕ) → Ended view m h s → byte ≡ byte_of h.flight.now → Took view m h false (byte ∷ []) s
+-- the talker ended after one byte
+pub ended_took : {M : Type 0} (view : M → MediumView) (m s : RingView M) (h : IsHolding m) (byte : ℕ) → Ended view m h s → byte ≡ byte_of h.flight.now → TakesWhole view m h false (byte ∷ []) s
 ended_took view m s h byte ended is_byte =
     let p = h.flight.source in
     let d : Echo = record { sent = h.flight.sent; back = ended.back } in
@@ -243,7 +243,7 @@ ended_took view m s h byte ended is_byte =
       stopped = refl;
       bytes_are = ap (λ byte. byte ∷ []) (is_byte ∙ byte_sent m h ended.clean.0);
       alone = λ last. ap (λ byte. byte ∷ []) (is_byte ∙ byte_sent m h ended.clean.0);
-      added = added_as view m s p (Some p) (behind_start (ToItsEnd p (d ∷ []))) None _ _ ended.added (λ k q gs outs said. (said.0, λ at. ap (λ gs. h.flight.sent ∷ gs) (said.1 at)));
+      added = added_as view m s p (Some p) (after_start (ToItsEnd p (d ∷ []))) None _ _ ended.added (λ k q gs outs said. (said.0, λ at. ap (λ gs. h.flight.sent ∷ gs) (said.1 at)));
       ring = ended.ring;
       held = ended.held;
       clean = ended.clean;
@@ -252,10 +252,10 @@ ended_took view m s h byte ended is_byte =
 
 -- a break at this entry of an answer
 pub breaks_at : {M : Type 0} (view : M → MediumView) (m s : RingView M) (h : IsHolding m) (w : ℕ) (answer : Answer) (xs rest : List Entry) (due : Entry) (break : Break) (held_at_end : Option ℕ) → talker_of answer ≡ Some h.flight.source → is_answer 0 answer ≡ true → fits w answer ≡ true
-    → behind_start answer ≡ xs ++ due ∷ rest → is_break 0 due break ≡ true → held_at_end ≡ held_after (Some h.flight.source) (xs ++ break_entries due break)
-    → AddsBy view m h.flight.source (Some h.flight.source) (xs ++ break_entries due break) held_at_end (λ k q gs outs. CutBrought k q (xs ++ due ∷ []) (behind_all xs 0) gs) s → IsRing s → s.books.held ≡ None → Spoilt m h s → Unheard m s → NotTook view m h w s
+    → after_start answer ≡ xs ++ due ∷ rest → is_break 0 due break ≡ true → held_at_end ≡ held_after (Some h.flight.source) (xs ++ break_entries due break)
+    → AddsBy view m h.flight.source (Some h.flight.source) (xs ++ break_entries due break) held_at_end (λ k q gs outs. CutBrought k q (xs ++ due ∷ []) (after_all xs 0) gs) s → IsRing s → s.books.held ≡ None → ReachesFault m h s → Unheard m s → TakesBroken view m h w s
 breaks_at view m s h w answer xs rest due break held_at_end talker legal fit entries is ended added ring held spoilt unheard =
-    let standing = behind_all xs 0 in
+    let standing = after_all xs 0 in
     record {
       answer = answer;
       talker = talker;
@@ -280,7 +280,7 @@ ends_legal : {M : Type 0} (m : RingView M) (h : IsHolding m) (d : Echo) (ds : Li
 ends_legal m h d ds echo echoes = and_from (not (h.flight.source == 0)) (true && list_all is_echo (d ∷ ds)) (is_device m h) (and_from true (list_all is_echo (d ∷ ds)) refl (and_from (is_echo d) (list_all is_echo ds) echo echoes))
 
 -- what was added, by what came whole and what was due
-pub severed_at : {M : Type 0} (view : M → MediumView) (m s : RingView M) (h : IsHolding m) (off : Severed view m h s) (whole : List Echo) (due : Entry) → off.whole ≡ whole → off.due ≡ due
+pub severed_at : {M : Type 0} (view : M → MediumView) (m s : RingView M) (h : IsHolding m) (off : RelayBroken view m h s) (whole : List Echo) (due : Entry) → off.whole ≡ whole → off.due ≡ due
     → AddsBy view m h.flight.source (Some h.flight.source) (map (echoed h.flight.source) whole ++ break_entries due off.break) None (λ k q gs outs. CutBrought k q (map (echoed h.flight.source) whole ++ due ∷ []) (length whole) gs) s
 severed_at view m s h off whole due whole_is due_is =
     let p = h.flight.source in
@@ -288,10 +288,10 @@ severed_at view m s h off whole due whole_is due_is =
     (subst (λ whole. AddsBy view m p (Some p) (map (echoed p) whole ++ break_entries off.due off.break) None (λ k q gs outs. CutBrought k q (map (echoed p) whole ++ off.due ∷ []) (length whole) gs) s) whole_is off.added)
 
 -- it broke off, with room for two bytes at least
-pub severed_not_took : {M : Type 0} (view : M → MediumView) (m s : RingView M) (h : IsHolding m) (w : ℕ) → 2 ≤ w → (off : Severed view m h s) → NotTook view m h w s
+pub severed_not_took : {M : Type 0} (view : M → MediumView) (m s : RingView M) (h : IsHolding m) (w : ℕ) → 2 ≤ w → (off : RelayBroken view m h s) → TakesBroken view m h w s
 severed_not_took view m s h w room off = by off.due_at
   where
-    by : DueAt h.flight.source h.own off.whole off.due → NotTook view m h w s
+    by : DueAt h.flight.source h.own off.whole off.due → TakesBroken view m h w s
     by (AtHeld d echo whole due) =
         breaks_at view m s h w (ToItsEnd h.flight.source (d ∷ [])) [] (entry h.flight.source eto (outcome.Taken 0) ∷ []) (echoed h.flight.source d) off.break None refl (ends_legal m h d [] echo refl) (le-leb 1 w (omega (arith, room))) refl
         (subst (λ due. is_break 0 due off.break ≡ true) due off.legal) (severed_holds_none (Some h.flight.source) [] (echoed h.flight.source d) off.break refl (is_device m h)) (severed_at view m s h off [] (echoed h.flight.source d) whole due) off.ring off.held off.spoilt off.unheard
@@ -329,23 +329,23 @@ module _ {M : Type 0} (view : M → MediumView) (m n : RingView M) (i : ℕ) (ol
   filled : (byte : ℕ) → i < length now → take (i + 1) (set now i byte) ≡ take i now ++ byte ∷ []
   filled byte within = let up : i + 1 ≡ suc i = omega arith in ap (λ k. take k (set now i byte)) up ∙ take-suc-set now i byte within
 
-  pub front_more : (byte : ℕ) (s : RingView M) → i < length now → IfSome n.books.held (λ f. byte ≡ byte_of f.now) → WentAs view n onward.More s → SoFar view m h (take (i + 1) (set now i byte)) s
-  front_more byte s within told went = subst (λ bytes. SoFar view m h bytes s) (sym (filled byte within)) (so_far_more view m n s h (take i now) byte (at.so h) (went (at.so h).now) (held_is byte told))
+  pub front_more : (byte : ℕ) (s : RingView M) → i < length now → IfSome n.books.held (λ f. byte ≡ byte_of f.now) → RelaysAs view n onward.More s → TakesSoFar view m h (take (i + 1) (set now i byte)) s
+  front_more byte s within told went = subst (λ bytes. TakesSoFar view m h bytes s) (sym (filled byte within)) (so_far_more view m n s h (take i now) byte (at.so h) (went (at.so h).now) (held_is byte told))
 
-  front_took : (byte : ℕ) (s : RingView M) → i < length now → IfSome n.books.held (λ f. byte ≡ byte_of f.now) → WentAs view n onward.Ended s → Took view m h false (take (i + 1) (set now i byte)) s
-  front_took byte s within told went = subst (λ bytes. Took view m h false bytes s) (sym (filled byte within)) (took_then view m n s h false (take i now) (byte ∷ []) (at.so h) (ended_took view n s (at.so h).now byte (went (at.so h).now) (held_is byte told)))
+  front_took : (byte : ℕ) (s : RingView M) → i < length now → IfSome n.books.held (λ f. byte ≡ byte_of f.now) → RelaysAs view n onward.Ended s → TakesWhole view m h false (take (i + 1) (set now i byte)) s
+  front_took byte s within told went = subst (λ bytes. TakesWhole view m h false bytes s) (sym (filled byte within)) (took_then view m n s h false (take i now) (byte ∷ []) (at.so h) (ended_took view n s (at.so h).now byte (went (at.so h).now) (held_is byte told)))
 
-  pub front_ended : (byte : ℕ) (s : RingView M) → i < length now → IfSome n.books.held (λ f. byte ≡ byte_of f.now) → WentAs view n onward.Ended s → Took view m h false (take (count + 1) (set now i byte)) s
-  front_ended byte s within told went = subst (λ k. Took view m h false (take (k + 1) (set now i byte)) s) (sym at.count_is) (front_took byte s within told went)
+  pub front_ended : (byte : ℕ) (s : RingView M) → i < length now → IfSome n.books.held (λ f. byte ≡ byte_of f.now) → RelaysAs view n onward.Ended s → TakesWhole view m h false (take (count + 1) (set now i byte)) s
+  front_ended byte s within told went = subst (λ k. TakesWhole view m h false (take (k + 1) (set now i byte)) s) (sym at.count_is) (front_took byte s within told went)
 
-  pub front_broken : (s : RingView M) → i < length old → WentAs view n onward.Broken s → NotTook view m h (suc (length old)) s
+  pub front_broken : (s : RingView M) → i < length old → RelaysAs view n onward.Broken s → TakesBroken view m h (suc (length old)) s
   front_broken s within went =
       let so = at.so h in
       let room : 2 ≤ suc (length old) - i = omega (arith, within) in
       let taken : length (take i now) ≡ i = length-take-le i now (omega (arith, within, at.many)) in
       not_took_then view m n s h (take i now) (suc (length old) - i) (suc (length old)) so (severed_not_took view n s so.now (suc (length old) - i) room (went so.now)) (omega (arith, taken, within))
 
--- what stands behind the places that are filled
+-- what comes after the places that are filled
 pub front_rest : {M : Type 0} (view : M → MediumView) (m n : RingView M) (i : ℕ) (old now : List ℕ) (count byte : ℕ) → FrontAt view m i old now count n → i < length now → drop (i + 1) (set now i byte) ≡ drop (i + 1) old
 front_rest view m n i old now count byte at within =
     let less : i < i + 1 = omega arith in
@@ -354,7 +354,7 @@ front_rest view m n i old now count byte at within =
     drop-more : (xs : List ℕ) → drop (i + 1) xs ≡ drop 1 (drop i xs)
     drop-more xs = sym (drop-drop 1 i xs)
 
-pub front_next : {M : Type 0} (view : M → MediumView) (m n s : RingView M) (i : ℕ) (old now : List ℕ) (count byte : ℕ) → FrontAt view m i old now count n → i < length now → IfSome n.books.held (λ f. byte ≡ byte_of f.now) → WentAs view n onward.More s → FrontAt view m (i + 1) old (set now i byte) (count + 1) s
+pub front_next : {M : Type 0} (view : M → MediumView) (m n s : RingView M) (i : ℕ) (old now : List ℕ) (count byte : ℕ) → FrontAt view m i old now count n → i < length now → IfSome n.books.held (λ f. byte ≡ byte_of f.now) → RelaysAs view n onward.More s → FrontAt view m (i + 1) old (set now i byte) (count + 1) s
 front_next view m n s i old now count byte at within told went = record {
   so = λ h. front_more view m n i old now count h at byte s within told went;
   rest = front_rest view m n i old now count byte at within;
@@ -363,7 +363,7 @@ front_next view m n s i old now count byte at within told went = record {
 }
 
 -- the talker ended in front of the last place
-pub front_ends : {M : Type 0} (view : M → MediumView) (m n s : RingView M) (i : ℕ) (old now : List ℕ) (count byte : ℕ) → FrontAt view m i old now count n → i < length now → IfSome n.books.held (λ f. byte ≡ byte_of f.now) → WentAs view n onward.Ended s → Fronts view m old (set now i byte) (front.Ended (count + 1)) s
+pub front_ends : {M : Type 0} (view : M → MediumView) (m n s : RingView M) (i : ℕ) (old now : List ℕ) (count byte : ℕ) → FrontAt view m i old now count n → i < length now → IfSome n.books.held (λ f. byte ≡ byte_of f.now) → RelaysAs view n onward.Ended s → Fronts view m old (set now i byte) (front.Ended (count + 1)) s
 front_ends view m n s i old now count byte at within told went =
     let same = at.count_is in (
       omega (arith, same, within, at.many),
@@ -374,7 +374,7 @@ front_ends view m n s i old now count byte at within told went =
 
 -- all places are filled
 pub front_full : {M : Type 0} (view : M → MediumView) (m s : RingView M) (i : ℕ) (old now : List ℕ) (count : ℕ) → FrontAt view m i old now count s → i ≡ length now → Fronts view m old now front.Full s
-front_full view m s i old now count at all = (at.many, λ h. subst (λ bytes. SoFar view m h bytes s) (ap (λ k. take k now) all ∙ take-length now) (at.so h))
+front_full view m s i old now count at all = (at.many, λ h. subst (λ bytes. TakesSoFar view m h bytes s) (ap (λ k. take k now) all ∙ take-length now) (at.so h))
 
 -- ---- all places
 
@@ -391,10 +391,10 @@ module _ {M : Type 0} (view : M → MediumView) (m : RingView M) (old : List ℕ
   long : length (take last old) ≡ last
   long = length-take-le last old (omega (arith, at))
 
-  pub bytes_broken : (s : RingView M) → ((h : IsHolding m) → NotTook view m h (suc (length (take last old))) s) → (h : IsHolding m) → NotTook view m h (length old) s
-  bytes_broken s broken h = let all : suc (length (take last old)) ≡ length old = omega (arith, long, at) in subst (λ w. NotTook view m h w s) all (broken h)
+  pub bytes_broken : (s : RingView M) → ((h : IsHolding m) → TakesBroken view m h (suc (length (take last old))) s) → (h : IsHolding m) → TakesBroken view m h (length old) s
+  bytes_broken s broken h = let all : suc (length (take last old)) ≡ length old = omega (arith, long, at) in subst (λ w. TakesBroken view m h w s) all (broken h)
 
-  pub bytes_ended : (s : RingView M) (new : List ℕ) (count : ℕ) → Fronts view m (take last old) new (front.Ended count) s → (h : IsHolding m) → TookInto view m h old (new ++ drop last old) count s
+  pub bytes_ended : (s : RingView M) (new : List ℕ) (count : ℕ) → Fronts view m (take last old) new (front.Ended count) s → (h : IsHolding m) → TakesInto view m h old (new ++ drop last old) count s
   bytes_ended s new count ended h =
       let within : count ≤ last = omega (arith, ended.0, long) in
       let rest : drop count (take last old) ++ drop last old ≡ drop count old = sym (drop-append-le count (take last old) (drop last old) ended.0) ∙ ap (drop count) (take-append-drop last old) in
@@ -403,7 +403,7 @@ module _ {M : Type 0} (view : M → MediumView) (m : RingView M) (old : List ℕ
         count = ended.1;
         within = omega (arith, within, at);
         filled = ap (λ bytes. bytes ++ drop last old) ended.2 ∙ append_assoc (take count new) (drop count (take last old)) (drop last old) ∙ ap (λ rest. take count new ++ rest) rest;
-        took = let other : false ≡ (count == length old) = sym (ne_eqb count (length old) (λ e. omega (arith, e, within, at))) in subst (λ stops. Took view m h stops (take count new) s) other (ended.3 h);
+        took = let other : false ≡ (count == length old) = sym (ne_eqb count (length old) (λ e. omega (arith, e, within, at))) in subst (λ stops. TakesWhole view m h stops (take count new) s) other (ended.3 h);
       }
 
   pub full_held : (n : RingView M) (new : List ℕ) → Fronts view m (take last old) new front.Full n → IsHolding m → IsSome n.books.held
@@ -420,7 +420,7 @@ module _ {M : Type 0} (view : M → MediumView) (m : RingView M) (old : List ℕ
   pub full_holding : (n : RingView M) (new : List ℕ) → Fronts view m (take last old) new front.Full n → IsHolding m → IsHolding n
   full_holding n new full h = (full.1 h).now
 
-  pub bytes_stopped : (n s : RingView M) (new : List ℕ) (byte : ℕ) → Fronts view m (take last old) new front.Full n → IfSome n.books.held (λ f. byte ≡ byte_of f.now) → Stops view n true s → (h : IsHolding m) → TookInto view m h old (set (new ++ drop last old) last byte) (last + 1) s
+  pub bytes_stopped : (n s : RingView M) (new : List ℕ) (byte : ℕ) → Fronts view m (take last old) new front.Full n → IfSome n.books.held (λ f. byte ≡ byte_of f.now) → Stops view n true s → (h : IsHolding m) → TakesInto view m h old (set (new ++ drop last old) last byte) (last + 1) s
   bytes_stopped n s new byte full told stops h =
       let so = full.1 h in
       let took = stops so.now in
@@ -438,8 +438,8 @@ module _ {M : Type 0} (view : M → MediumView) (m : RingView M) (old : List ℕ
             ∙ sym (append-nil (new ++ byte ∷ []))
             ∙ ap (λ rest. (new ++ byte ∷ []) ++ rest) (sym (drop_all (last + 1) old (omega (arith, at))));
         took = let all : true ≡ (last + 1 == length old) = sym (eq-eqb (last + 1) (length old) at) in
-            subst (λ stops. Took view m h stops (new ++ byte ∷ []) s) all (took_then view m n s h true new (byte ∷ []) so (subst (λ byte. Took view n so.now true (byte ∷ []) s) (sym byte_is) took));
+            subst (λ stops. TakesWhole view m h stops (new ++ byte ∷ []) s) all (took_then view m n s h true new (byte ∷ []) so (subst (λ byte. TakesWhole view n so.now true (byte ∷ []) s) (sym byte_is) took));
       }
 
-  pub bytes_not_stopped : (n s : RingView M) (new : List ℕ) → Fronts view m (take last old) new front.Full n → Stops view n false s → (h : IsHolding m) → NotTook view m h (length old) s
+  pub bytes_not_stopped : (n s : RingView M) (new : List ℕ) → Fronts view m (take last old) new front.Full n → Stops view n false s → (h : IsHolding m) → TakesBroken view m h (length old) s
   bytes_not_stopped n s new full stops h = let so = full.1 h in not_took_then view m n s h new 1 (length old) so (stops so.now) (omega (arith, full.0, long, at))

@@ -1,4 +1,4 @@
--- Who talks behind a talk address.
+-- Who talks after a talk address.
 use Rattle.std.proofs.Common.{◌≡◌, ◌∙◌, ◌≤◌, ◌+◌, ◌-◌, ◌++◌, ◌&&◌, ◌==◌, ⊎_elim, ℕ, suc, Bool, true, false, not, List, [], ◌∷◌, Option, Some, None, length, refl, sym, ap, arith}
 use Rattle.std.specs.Prelude.{if◌then◌else◌, nat_le}
 use Rattle.std.specs.List.{list_all}
@@ -37,15 +37,15 @@ here_alone k true ps is none = ap (λ ps. k ∷ ps) none
 here_alone k false ps is none = cc
 
 alone_in : (k : ℕ) (bs cs : List DeviceState) (d : DeviceState) → AllSilent bs → d.roles.talks ≡ true → AllSilent cs → talkers_from k (roles_of (bs ++ d ∷ cs)) ≡ (k + length bs) ∷ []
-alone_in k [] cs d before talks behind = let same : k + 0 ≡ k = omega arith in here_alone k d.roles.talks _ talks (silent_quiet (suc k) cs behind) ∙ ap (λ k. k ∷ []) (sym same)
-alone_in k (b ∷ bs) cs d before talks behind =
+alone_in k [] cs d before talks after = let same : k + 0 ≡ k = omega arith in here_alone k d.roles.talks _ talks (silent_quiet (suc k) cs after) ∙ ap (λ k. k ∷ []) (sym same)
+alone_in k (b ∷ bs) cs d before talks after =
     let same : suc k + length bs ≡ k + length (b ∷ bs) = omega arith in
-    no_head k b.roles.talks _ _ (ap not before.0) (alone_in (suc k) bs cs d before.1 talks behind ∙ ap (λ k. k ∷ []) same)
+    no_head k b.roles.talks _ _ (ap not before.0) (alone_in (suc k) bs cs d before.1 talks after ∙ ap (λ k. k ∷ []) same)
 
 pub talking_alone : (p : ℕ) (own : Option OwnFrame) (ds : List DeviceState) → IsTalking p own ds → talkers (roles_of ds) ≡ p ∷ []
 talking_alone p own ds talking =
     let at : 1 + length talking.before ≡ p = omega (arith, talking.party) in
-    ap (λ ds. talkers (roles_of ds)) talking.devices_are ∙ alone_in 1 talking.before talking.behind talking.talker talking.silent talking.talks talking.silent_behind ∙ ap (λ p. p ∷ []) at
+    ap (λ ds. talkers (roles_of ds)) talking.devices_are ∙ alone_in 1 talking.before talking.after talking.talker talking.silent talking.talks talking.silent_after ∙ ap (λ p. p ∷ []) at
 
 -- ---- a talk address that no device has
 
@@ -57,7 +57,7 @@ none_addressed o party a (r ∷ rs) numbers quiet high =
     no_head party _ _ [] (quiet_other o party a r (λ e. omega (arith, e, high)) own.0 silent.0)
     (tad_passes o party (suc party) a rs ∙ none_addressed o (suc party) a rs own.1 silent.1 (omega (arith, high)))
 
--- ---- behind the front of a receive
+-- ---- after the front of a receive
 
 abbrev first_of : List ℕ → ℕ
 first_of [] = 0
@@ -88,7 +88,7 @@ module _ (rs : List Roles) (a : ℕ) (number : Option ℕ) (numbers : are_number
   pub one_asked : is_at_most_one (talkers (roles_after rs (receive_front 0 a number))) ≡ true
   one_asked = ap (λ rs. is_at_most_one (talkers rs)) front_roles ∙ one_talker-addressed between a (returned 0 (tad a)) numbered_still still (message_of-tad a low)
 
-  -- the device of that address talks, where there is one, and no other
+  -- the device of that address talks, if there is one, and no other
   pub asked_alone : 1 ≤ a → a ≤ length rs → talkers (roles_after rs (receive_front 0 a number)) ≡ a ∷ []
   asked_alone some within = ap talkers front_roles ∙ talkers-tad between a (returned 0 (tad a)) numbered_still still refl (message_of-tad a low) some (omega (arith, many, within)) refl
 

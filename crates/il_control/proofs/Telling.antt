@@ -1,4 +1,4 @@
--- Who listens behind a listen address.
+-- Who listens after a listen address.
 use Rattle.std.proofs.Common.{◌≡◌, ◌∙◌, ◌≤◌, ◌<◌, ◌+◌, ◌-◌, ◌++◌, ◌&&◌, ◌==◌, ◌⊎◌, inl, inr, ⊎_elim, ℕ, zero, suc, Bool, true, false, List, [], ◌∷◌, Option, Some, None, length, get_or, refl, sym, ap, subst, arith, append-nil, eq-eqb}
 use Rattle.std.specs.Prelude.{IfSome}
 use Rattle.std.proofs.lemmas.Bool.{and_from, le-leb, lt-ltb, ne_eqb}
@@ -32,7 +32,7 @@ send_head a number = ap (λ rest. commanded 0 unl ++ commanded 0 (lad a) ++ rest
 pub no_number : {M : Type 0} (view : M → MediumView) (r : RingView M) (frame : ℕ → Frame) (number : Option ℕ) → number ≡ None → IsFree r → Whole view r (numbered 0 frame number) r
 no_number view r frame number is free = subst (λ number. Whole view r (numbered 0 frame number) r) (sym is) (whole_nothing view r free)
 
--- unlisten whole, and what was done behind it
+-- unlisten whole, and what was done after it
 pub tell_done : {M : Type 0} (view : M → MediumView) (r m s : RingView M) (f : Frame) (a : ℕ) (number : Option ℕ) (whole : Bool) → IsRing r → f ≡ unl → Whole view r (commanded 0 f) m → Done view m (commanded 0 (lad a) ++ numbered 0 ddl number) whole s
     → Done view r (entries_of 0 (Send a number [])) whole s
 tell_done view r m s f a number whole ring is first more = subst (λ es. Done view r es whole s) (send_head a number) (told_then view r m s f unl (commanded 0 (lad a) ++ numbered 0 ddl number) whole ring is first more)
@@ -56,7 +56,7 @@ each_told a k (d ∷ ds) told =
       each_told a (k + 1) ds (λ i within. let on : k + suc i ≡ k + 1 + i = omega arith in told (suc i) (omega (arith, within)) ∙ ap (λ k. k == a) on),
     )
 
--- ---- behind the listen address
+-- ---- after the listen address
 
 pub listening : {M : Type 0} (view : M → MediumView) (r s : RingView M) (a : ℕ) (number : Option ℕ) → IsIdle r → 1 ≤ a → a ≤ 30 → IfSome number (λ n. n < 32) → Whole view r (entries_of 0 (Send a number [])) s
     → Each (IsTold a) 1 (devices_of s)

@@ -10,7 +10,7 @@ use Rattle.loop_model.specs.Reach.{brings_to}
 use Rattle.il_ring.specs.Journeys.{is_exact, is_identify}
 pub use Rattle.il_ring.specs.Turned.{is_auto_address}
 
--- How a frame that was sent so comes to party q where no fault acts on it: a data or end frame with any service bit, AAD 1
+-- How a frame that was sent so comes to party q if no fault acts on it: a data or end frame with any service bit, AAD 1
 -- with the number of the party, an identify frame with any bits, and any other as it was sent.
 pub record ComesAs (q : ℕ) (f g : Frame) : Type 0 where
   pub data_frame : is_data f ≡ true → (is_data g ≡ true) × (with_service g ≡ with_service f)
@@ -18,7 +18,7 @@ pub record ComesAs (q : ℕ) (f g : Frame) : Type 0 where
   pub poll : is_identify f ≡ true → is_identify g ≡ true
   pub other : is_exact (message_of f) ≡ true → is_auto_address (message_of f) ≡ false → g ≡ f
 
--- the same where a fault may have changed the byte of a data or end frame
+-- the same if a fault may have changed the byte of a data or end frame
 pub record MayComeAs (q : ℕ) (f g : Frame) : Type 0 where
   pub data_frame : is_data f ≡ true → is_data g ≡ true
   pub address : f ≡ aad 1 → g ≡ aad q
@@ -42,7 +42,7 @@ CutBrought k q [] n gs = gs ≡ []
 CutBrought k q (e ∷ es) zero gs = (gs ≡ []) ⊎ ((g : Frame) × MayComeAs q e.frame g × (gs ≡ g ∷ []))
 CutBrought k q (e ∷ es) (suc n) gs = BroughtIf (brings_to k q e) (ComesAs q e.frame) (CutBrought k q es n) gs
 
--- The entry is the host's, or of a party that is the drive or stands behind it: its frame came to the drive before the
+-- The entry is the host's, or of a party that is the drive or comes after it: its frame came to the drive before the
 -- entry was noted.
 abbrev pub is_from_here : ℕ → Entry → Bool
 is_from_here q e = (e.source == 0) || nat_le q e.source

@@ -38,11 +38,11 @@ Unheard r s = First HearsNothing (length (devices_of r)) (devices_of r) (devices
 abbrev pub Obeyed : {M : Type 0} → Message → RingView M → RingView M → Type 0
 Obeyed m r s = First (Obeys m) (length (devices_of r)) (devices_of r) (devices_of s)
 
--- the first so many devices obeyed it, and the others are as they were
+-- the first n devices obeyed it, and the others are as they were
 abbrev pub ObeyedInPart : {M : Type 0} → Message → RingView M → RingView M → Type 0
 ObeyedInPart m r s = (reached : ℕ) × First (Obeys m) reached (devices_of r) (devices_of s)
 
--- What a device keeps that is told no poll message and hears nothing: its place in the parallel poll too; and, where `still`, whether it
+-- What a device keeps that gets no poll message and hears nothing: its place in the parallel poll too; and, if `still`, whether it
 -- wants service.
 pub record Stays (still : Bool) (d e : DeviceState) : Type 0 where
   pub nothing : HearsNothing d e
@@ -53,8 +53,8 @@ pub record Stays (still : Bool) (d e : DeviceState) : Type 0 where
 abbrev pub AllStay : {M : Type 0} → Bool → RingView M → RingView M → Type 0
 AllStay still r s = First (Stays still) (length (devices_of r)) (devices_of r) (devices_of s)
 
--- The entries, whole: no planned hop was met, no frame is held, and where none of them is a data frame no device heard anything.
--- Where each is of the host, the drive or a device behind it, the frames that they brought to the drive came to it in their order.
+-- The entries, whole: no planned hop was reached, no frame is held, and if none of them is a data frame no device heard anything.
+-- If each is of the host, the drive or a device after it, the frames that they brought to the drive came to it in their order.
 pub record Whole {M : Type 0} (view : M → MediumView) (r : RingView M) (entries : List Entry) (s : RingView M) : Type 0 where
   pub adds : Adds view r None entries None s
   pub ring : IsRing s
@@ -63,8 +63,8 @@ pub record Whole {M : Type 0} (view : M → MediumView) (r : RingView M) (entrie
   pub unheard : list_all has_no_data entries ≡ true → Unheard r s
   pub brought : list_all (is_from_here (drive_party r)) entries ≡ true → Brought (length (devices_of r)) (drive_party r) entries adds.came
 
--- So many of them, and then a break in the place of the next: a planned hop was met, and no frame is held. A frame was held as they
--- ended at most where NRD is one of them.
+-- This many of them, and then a break in the place of the next: a planned hop was reached, and no frame is held. A frame was held as they
+-- ended at most if NRD is one of them.
 pub record Broke {M : Type 0} (view : M → MediumView) (r : RingView M) (entries : List Entry) (s : RingView M) : Type 0 where
   pub standing : ℕ
   pub break : Break
@@ -128,7 +128,7 @@ pub record BrokenOff {M : Type 0} (view : M → MediumView) (x : Exchange) (r s 
 
 -- ---- from any roles
 
--- the entries of a controller that addresses all devices, which are so many
+-- the entries of a controller that addresses all devices, which are this many
 abbrev pub addressing : ℕ → List Entry
 addressing devices = entries_of 0 (Command ifc) ++ (entries_of 0 (Command aau) ++ entries_of 0 (Address devices))
 
@@ -156,7 +156,7 @@ pub record NotResumed {M : Type 0} (view : M → MediumView) (r s : RingView M) 
 abbrev pub sent_as : ℕ → Frame → Echo
 sent_as byte back = record { sent = framed class.Dab byte; back = back }
 
--- party k listens exactly where it is a
+-- party k listens if and only if it is a
 abbrev pub IsTold : ℕ → ℕ → DeviceState → Type 0
 IsTold a k d = d.roles.listens ≡ (k == a)
 
@@ -169,7 +169,7 @@ pub record Sent {M : Type 0} (view : M → MediumView) (byte : ℕ) (r s : RingV
   pub heard : First (HearsByte byte) (length (devices_of r)) (devices_of r) (devices_of s)
   pub idle : IsIdle s
 
--- It was lost, or came back with another byte; the first so many devices heard what came to them.
+-- It was lost, or came back with another byte; the first n devices heard what came to them.
 pub record NotSent {M : Type 0} (view : M → MediumView) (byte : ℕ) (r s : RingView M) : Type 0 where
   pub broke : Broke view r (echoed 0 (sent_as byte (framed class.Dab byte)) ∷ []) s
   pub one : OneTalker (roles_of (devices_of r)) (cut_at (echoed 0 (sent_as byte (framed class.Dab byte)) ∷ []) broke.standing broke.break)

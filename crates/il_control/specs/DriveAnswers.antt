@@ -39,7 +39,7 @@ pub record AnswersPolling {M : Type 0} (base : List Entry) (r : RingView M) : Ty
   pub answered : answers_always (length (devices_of r)) (drive_party r) None entries ≡ true
   pub knows : IfSome r.guest (λ mind. KnowsAsked (asked_all (length (devices_of r)) None entries) mind.control)
 
--- what is left of that where the rounds broke off
+-- what is left of that if the rounds broke off
 pub record AnswersBrokeOff {M : Type 0} (base : List Entry) (s : RingView M) : Type 0 where
   pub entries : List Entry
   pub log : s.books.log ≡ base ++ entries

@@ -1,4 +1,4 @@
--- A second controller that polls, at every moment at which a frame stands at the host: where it is in its rounds, and what the loop is then.
+-- A second controller that polls, at every moment at which a frame is at the host: where it is in its rounds, and what the loop is then.
 use Rattle.std.specs.Prelude.{◌≡◌, ◌≤◌, ◌+◌, ◌++◌, ℕ, true, List, [], ◌∷◌, Option, Some, None, length, count_by}
 use Rattle.il_control.specs.Receives.{IsCalm, IsDeaf, IsHolding}
 use Rattle.il_device.specs.State.{DeviceState}
@@ -18,7 +18,7 @@ use Rattle.il_guest.specs.declared.control.Place.TheVariants as place
 use Rattle.il_ports.specs.Media.{MediumView}
 use Rattle.il_ring.specs.Flights.{sourced}
 use Rattle.il_ring.specs.Guests.{GuestMind}
-use Rattle.il_ring.specs.Lending.{IsLed, going_on}
+use Rattle.il_ring.specs.Lending.{IsControlled, going_on}
 use Rattle.il_ring.specs.Lends.{RoundsEnd, end_entries, is_break_end, is_end_at, rounds_entries}
 use Rattle.il_ring.specs.Lists.{Each}
 use Rattle.il_ring.specs.Remaining.{AreRounds, BeginRounds, from_byte, from_command, from_ready, from_start}
@@ -60,7 +60,7 @@ pub record AskedSince (P : List Entry → Type 0) (front : List DeviceState) : T
 
 -- ---- nobody listens, and nobody sends
 
--- behind UNL nobody listens, and behind a talk address nobody has a frame of its own on the loop either
+-- after UNL nobody listens, and after a talk address nobody has a frame of its own on the loop either
 abbrev pub QuietCommand : Command → List DeviceState → Type 0
 QuietCommand command.Nop front = Unit {0}
 QuietCommand (command.Unl a) front = Unit {0}
@@ -75,7 +75,7 @@ QuietReady (command.Unt a) front = Unit {0}
 
 -- ---- the end of rounds
 
--- Behind these entries this end stands in the place of one that is due.
+-- After these entries this end is in the place of one that is due.
 pub record RoundsEndSo (k : ℕ) (asked : List ℕ) (entries tail : List Entry) (end : RoundsEnd) : Type 0 where
   pub all : List (List Answer)
   pub rounds_are : AreRounds k asked all
@@ -98,7 +98,7 @@ module _ {M : Type 0} (view : M → MediumView) (k last : ℕ) (own : Option ℕ
   abbrev pub front_of : RingView M → List DeviceState → List DeviceState
   front_of r boxed = devices_of (own_ring boxed None (going_on r))
 
-  -- a frame of its own other than NRD stands at the host
+  -- a frame of its own other than NRD is at the host
   pub record OwnStands (r : RingView M) (boxed : List DeviceState) (f : Frame) (Q : List DeviceState → Type 0) (P : List Entry → Type 0) (entries : List Entry) (yet : List ℕ) (goes : List Answer → List (List Answer) → List Entry) : Type 0 where
     pub lent_is : r.books.lent ≡ Some (sourced k f)
     pub kept_is : r.books.kept ≡ None
@@ -147,9 +147,9 @@ module _ {M : Type 0} (view : M → MediumView) (k last : ℕ) (own : Option ℕ
   StandsSo (place.Held a d) r boxed entries = (more : List ℕ) × Follow own last a more × HeldStands r boxed a d more entries
   StandsSo (place.Relayed a d) r boxed entries = (more : List ℕ) × Follow own last a more × ByteStands r boxed a more entries
 
-  -- So many frames have come to the host since the ring was lent, and the log has these entries more than at that moment.
+  -- This many frames have come to the host since the ring was lent, and the log has these entries more than at that moment.
   pub record Polling (r : RingView M) (arrived : ℕ) : Type 0 where
-    pub led : IsLed r
+    pub controlled : IsControlled r
     pub many : length (devices_of r) ≡ k
     pub boxed : List DeviceState
     pub device : DeviceState

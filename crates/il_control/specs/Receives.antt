@@ -79,7 +79,7 @@ fits w (Stopped p ds last) = suc (length ds) == w
 
 -- ---- what comes to the drive meanwhile
 
--- a frame that comes to a device behind a talker while that one sends
+-- a frame that comes to a device after a talker while that one sends
 abbrev pub IsSpoken : Frame → Type 0
 IsSpoken g = (is_data g ≡ true) ⊎ ((g ≡ nrd) ⊎ ((g ≡ eto) ⊎ (g ≡ ete)))
 
@@ -87,32 +87,32 @@ abbrev pub AllSpoken : List Frame → Type 0
 AllSpoken [] = Unit {0}
 AllSpoken (g ∷ gs) = IsSpoken g × AllSpoken gs
 
--- What came to party q, which stands behind the talker: the commands before the start message, in order; frames of the talker; and the
--- commands behind them.
-pub record PassedBy (k q a : ℕ) (number : Option ℕ) (came : List Frame) : Type 0 where
+-- What came to party q, which comes after the talker: the commands before the start message, in order; frames of the talker; and the
+-- commands after them.
+pub record PassesBy (k q a : ℕ) (number : Option ℕ) (came : List Frame) : Type 0 where
   pub before : List Frame
   pub spoken : List Frame
-  pub behind : List Frame
-  pub all : came ≡ before ++ (spoken ++ behind)
+  pub after : List Frame
+  pub all : came ≡ before ++ (spoken ++ after)
   pub first : Brought k q (receive_front 0 a number) before
   pub during : AllSpoken spoken
-  pub last : Brought k q (commanded 0 unt) behind
+  pub last : Brought k q (commanded 0 unt) after
 
 -- how many entries a receive has up to the end of the talker's
 abbrev pub up_to_end : ℕ → Option ℕ → Start → Answer → ℕ
 up_to_end a number start answer = length (receive_front 0 a number) + length (answer_entries 0 (start_frame start) answer)
 
--- The same of a receive that was broken off once a device had taken the start message. So many of its entries stand, and up to the end of the
--- talker's there are `ended`. The commands before the start message all came; of those behind the talker's frames none came where the break
+-- The same of a receive that was broken off once a device had taken the start message. This many of its entries stand, and up to the end of the
+-- talker's there are `ended`. The commands before the start message all came; of those after the talker's frames none came if the break
 -- was before them, and else those of the entries that stand, and of the one that broke off at most its frame.
-pub record PassedInPart (k q a : ℕ) (number : Option ℕ) (ended standing : ℕ) (came : List Frame) : Type 0 where
+pub record PassesInPart (k q a : ℕ) (number : Option ℕ) (ended standing : ℕ) (came : List Frame) : Type 0 where
   pub before : List Frame
   pub spoken : List Frame
-  pub behind : List Frame
-  pub all : came ≡ before ++ (spoken ++ behind)
+  pub after : List Frame
+  pub all : came ≡ before ++ (spoken ++ after)
   pub first : Brought k q (receive_front 0 a number) before
   pub during : AllSpoken spoken
-  pub last : ((standing < ended) × (behind ≡ [])) ⊎ ((ended ≤ standing) × CutBrought k q (commanded 0 unt) (standing - ended) behind)
+  pub last : ((standing < ended) × (after ≡ [])) ⊎ ((ended ≤ standing) × CutBrought k q (commanded 0 unt) (standing - ended) after)
 
 -- the frames that the drive sent of its own among its answers
 abbrev pub own_frames : List Out → List Frame
@@ -120,7 +120,7 @@ own_frames [] = []
 own_frames (Pass g ∷ outs) = own_frames outs
 own_frames (Source g ∷ outs) = g ∷ own_frames outs
 
--- what the talker sends to a start message and to the echoes of its frames; nothing where no device took the message
+-- what the talker sends to a start message and to the echoes of its frames; nothing if no device took the message
 abbrev pub said_of : Answer → List Frame
 said_of NotTaken = []
 said_of (ToItsEnd p ds) = sent_frames (ToItsEnd p ds) ++ eto ∷ []
@@ -130,27 +130,27 @@ said_of (Stopped p ds last) = sent_frames (Stopped p ds last) ++ eto ∷ []
 abbrev pub SaysOf : {M : Type 0} → Answer → RingView M → Type 0
 SaysOf answer r = IfSome (talker_of answer) (λ p. p ≡ drive_party r)
 
--- What came to the drive and what it answered, where it is the talker or no device took the start message: the commands before that
--- message; the message and the echoes, for which it sent its data frames and ETO, or nothing of its own; and the commands behind them.
+-- What came to the drive and what it answered, if it is the talker or no device took the start message: the commands before that
+-- message; the message and the echoes, for which it sent its data frames and ETO, or nothing of its own; and the commands after them.
 pub record SpokenBy (k q a : ℕ) (number : Option ℕ) (start : Start) (answer : Answer) (came : List Frame) (answers : List Out) : Type 0 where
   pub before : List Frame
   pub during : List Frame
-  pub behind : List Frame
-  pub all : came ≡ before ++ (during ++ behind)
+  pub after : List Frame
+  pub all : came ≡ before ++ (during ++ after)
   pub first : Brought k q (receive_front 0 a number) before
   pub middle : Brought k q (answer_entries 0 (start_frame start) answer) during
-  pub last : Brought k q (commanded 0 unt) behind
+  pub last : Brought k q (commanded 0 unt) after
   pub answers_before : List Out
   pub answers_during : List Out
-  pub answers_behind : List Out
-  pub all_answers : answers ≡ answers_before ++ (answers_during ++ answers_behind)
+  pub answers_after : List Out
+  pub all_answers : answers ≡ answers_before ++ (answers_during ++ answers_after)
   pub many_before : length answers_before ≡ length before
   pub many_during : length answers_during ≡ length during
   pub said : own_frames answers_during ≡ said_of answer
 
--- a device took the start message, and the drive stands behind it
-abbrev pub StandsBehind : {M : Type 0} → Answer → RingView M → Type 0
-StandsBehind answer r = IfSome (talker_of answer) (λ p. p < drive_party r) × IsSome (talker_of answer)
+-- a device took the start message, and the drive comes after it
+abbrev pub LiesAfter : {M : Type 0} → Answer → RingView M → Type 0
+LiesAfter answer r = IfSome (talker_of answer) (λ p. p < drive_party r) × IsSome (talker_of answer)
 
 -- the accessory ID of the device at this place, counted from 0, if there is one and it has one
 abbrev pub accessory_at : ℕ → List DeviceState → Option ℕ
@@ -158,14 +158,14 @@ accessory_at i [] = None
 accessory_at zero (d ∷ ds) = d.accessory
 accessory_at (suc i) (d ∷ ds) = accessory_at i ds
 
--- as the bytes that tell it
+-- as the bytes that report it
 abbrev pub id_bytes : Option ℕ → List ℕ
 id_bytes None = []
 id_bytes (Some id) = id ∷ []
 
--- The exchange was made. The talker was the device of that address; it was stopped exactly where it brought as many bytes as there
+-- The exchange was made. The talker was the device of that address; it was stopped if and only if it brought as many bytes as there
 -- was room for, and the first n bytes are those that it brought. No device heard anything, and each keeps its place in the poll.
--- To SAI it brought the accessory ID of the device of that address, and nothing where there is none.
+-- To SAI it brought the accessory ID of the device of that address, and nothing if there is none.
 pub record Received {M : Type 0} (view : M → MediumView) (a : ℕ) (number : Option ℕ) (start : Start) (n : ℕ) (r : RingView M) (old new : List ℕ) (s : RingView M) : Type 0 where
   pub answer : Answer
   pub asked : answers_as_asked (length (devices_of r)) (Receive a number start answer) ≡ true
@@ -177,7 +177,7 @@ pub record Received {M : Type 0} (view : M → MediumView) (a : ℕ) (number : O
   pub unheard : Unheard r s
   pub stays : AllStay false r s
   pub id : start ≡ Sai → received answer ≡ id_bytes (accessory_at (a - 1) (devices_of r))
-  pub passed : StandsBehind answer r → PassedBy (length (devices_of r)) (drive_party r) a number made.whole.adds.came
+  pub passed : LiesAfter answer r → PassesBy (length (devices_of r)) (drive_party r) a number made.whole.adds.came
   pub spoken : SaysOf answer r → SpokenBy (length (devices_of r)) (drive_party r) a number start answer made.whole.adds.came made.whole.adds.answers
 
 -- it was broken off
@@ -188,7 +188,7 @@ pub record NotReceived {M : Type 0} (view : M → MediumView) (a : ℕ) (number 
   pub broken : BrokenOff view (Receive a number start answer) r s
   pub unheard : Unheard r s
   pub stays : AllStay false r s
-  pub passed : StandsBehind answer r → PassedInPart (length (devices_of r)) (drive_party r) a number (up_to_end a number start answer) broken.broke.standing broken.broke.adds.came
+  pub passed : LiesAfter answer r → PassesInPart (length (devices_of r)) (drive_party r) a number (up_to_end a number start answer) broken.broke.standing broken.broke.adds.came
 
 -- ---- before the start message
 
@@ -201,14 +201,14 @@ pub record Asked {M : Type 0} (view : M → MediumView) (a : ℕ) (number : Opti
   pub whole : Whole view r (receive_front 0 a number) s
   pub calm : Each IsCalm 1 (devices_of s)
 
--- These entries were added while party p sent. Where the drive is that party or stands before it, the frames that came to it are those
--- that the entries brought; behind it they are frames of the talker and NRD.
+-- These entries were added while party p sent. If the drive is that party or is before it, the frames that came to it are those
+-- that the entries brought; after it they are frames of the talker and NRD.
 pub record AddsBy {M : Type 0} (view : M → MediumView) (m : RingView M) (p : ℕ) (from : Option ℕ) (entries : List Entry) (to : Option ℕ) (brought : ℕ → ℕ → List Frame → List Out → Type 0) (s : RingView M) : Type 0 where
   pub adds : Adds view m from entries to s
   pub near : drive_party m ≤ p → brought (length (devices_of m)) (drive_party m) adds.came adds.answers
   pub far : p < drive_party m → AllSpoken adds.came
 
--- the entries brought their frames; where the drive is that party, what it sent has S
+-- the entries brought their frames; if the drive is that party, what it sent has S
 abbrev pub Brings : {M : Type 0} → (M → MediumView) → RingView M → ℕ → (List Frame → Type 0) → Option ℕ → List Entry → Option ℕ → RingView M → Type 0
 Brings view m p S from entries to s = AddsBy view m p from entries to (λ k q gs outs. Brought k q entries gs × (q ≡ p → S (own_frames outs))) s
 
@@ -231,16 +231,16 @@ pub record IsHolding {M : Type 0} (m : RingView M) : Type 0 where
   pub frame : own.frame ≡ flight.sent
   pub deaf : Each IsDeaf 1 (devices_of m)
 
--- a planned hop was met by then, by the held frame or behind it
-abbrev pub Spoilt : {M : Type 0} (m : RingView M) → IsHolding m → RingView M → Type 0
-Spoilt m h s = (h.flight.altered ≡ true) ⊎ (met_between m s ≢ [])
+-- a planned hop was reached by then, by the held frame or after it
+abbrev pub ReachesFault : {M : Type 0} (m : RingView M) → IsHolding m → RingView M → Type 0
+ReachesFault m h s = (h.flight.altered ≡ true) ⊎ (met_between m s ≢ [])
 
 -- none was
-abbrev pub Clean : {M : Type 0} (m : RingView M) → IsHolding m → RingView M → Type 0
-Clean m h s = (h.flight.altered ≡ false) × (met_between m s ≡ [])
+abbrev pub ReachesNoFault : {M : Type 0} (m : RingView M) → IsHolding m → RingView M → Type 0
+ReachesNoFault m h s = (h.flight.altered ≡ false) × (met_between m s ≡ [])
 
--- It came back right, and the talker's next frame is held, which was altered exactly where a planned hop was met.
-pub record WentOn {M : Type 0} (view : M → MediumView) (m : RingView M) (h : IsHolding m) (s : RingView M) : Type 0 where
+-- It came back right, and the talker's next frame is held, which was altered if and only if a planned hop was reached.
+pub record RelaysNext {M : Type 0} (view : M → MediumView) (m : RingView M) (h : IsHolding m) (s : RingView M) : Type 0 where
   pub back : Frame
   pub right : is_echo (record { sent = h.flight.sent; back = back }) ≡ true
   pub goes_on : (h.own.stopped || h.own.last) ≡ false
@@ -258,17 +258,17 @@ pub record Ended {M : Type 0} (view : M → MediumView) (m : RingView M) (h : Is
   pub added : Brings view m h.flight.source (λ gs. gs ≡ eto ∷ []) (Some h.flight.source) (echoed h.flight.source (record { sent = h.flight.sent; back = back }) ∷ entry h.flight.source eto (outcome.Taken 0) ∷ []) None s
   pub ring : IsRing s
   pub held : s.books.held ≡ None
-  pub clean : Clean m h s
+  pub clean : ReachesNoFault m h s
   pub unheard : Unheard m s
 
--- Which frame was due as it broke off, behind these that came back right: the held one, one that the talker sent behind it, or the end.
+-- Which frame was due as it broke off, after these that came back right: the held one, one that the talker sent after it, or the end.
 pub data DueAt (p : ℕ) (own : OwnFrame) (whole : List Echo) (due : Entry) : Type 0 where
   AtHeld : (d : Echo) → is_echo d ≡ true → whole ≡ [] → due ≡ echoed p d → DueAt p own whole due
   AtNext : (c d : Echo) → is_echo c ≡ true → is_echo d ≡ true → (own.stopped || own.last) ≡ false → whole ≡ c ∷ [] → due ≡ echoed p d → DueAt p own whole due
   AtEnd : (d : Echo) → is_echo d ≡ true → whole ≡ d ∷ [] → due ≡ entry p eto (outcome.Taken 0) → DueAt p own whole due
 
 -- it broke off
-pub record Severed {M : Type 0} (view : M → MediumView) (m : RingView M) (h : IsHolding m) (s : RingView M) : Type 0 where
+pub record RelayBroken {M : Type 0} (view : M → MediumView) (m : RingView M) (h : IsHolding m) (s : RingView M) : Type 0 where
   pub whole : List Echo
   pub due : Entry
   pub break : Break
@@ -277,14 +277,14 @@ pub record Severed {M : Type 0} (view : M → MediumView) (m : RingView M) (h : 
   pub added : AddsBy view m h.flight.source (Some h.flight.source) (map (echoed h.flight.source) whole ++ break_entries due break) None (λ k q gs outs. CutBrought k q (map (echoed h.flight.source) whole ++ due ∷ []) (length whole) gs) s
   pub ring : IsRing s
   pub held : s.books.held ≡ None
-  pub spoilt : Spoilt m h s
+  pub spoilt : ReachesFault m h s
   pub unheard : Unheard m s
 
 -- what came of a held frame that went on
-abbrev pub WentAs : {M : Type 0} → (M → MediumView) → RingView M → Onward → RingView M → Type 0
-WentAs view m onward.More s = (h : IsHolding m) → WentOn view m h s
-WentAs view m onward.Ended s = (h : IsHolding m) → Ended view m h s
-WentAs view m onward.Broken s = (h : IsHolding m) → Severed view m h s
+abbrev pub RelaysAs : {M : Type 0} → (M → MediumView) → RingView M → Onward → RingView M → Type 0
+RelaysAs view m onward.More s = (h : IsHolding m) → RelaysNext view m h s
+RelaysAs view m onward.Ended s = (h : IsHolding m) → Ended view m h s
+RelaysAs view m onward.Broken s = (h : IsHolding m) → RelayBroken view m h s
 
 -- by what arrived
 abbrev pub IsOnward : Arrival → Onward → Type 0
@@ -298,8 +298,8 @@ IsOnward answer onward.Broken = (answer ≡ arrival.Lost) ⊎ ((g : Frame) × (a
 abbrev pub IsNameless : ℕ → DeviceState → Type 0
 IsNameless k d = d.roles.talks ≡ true → d.accessory ≡ None
 
--- Party p took it, and its first frame is held, which was altered exactly where a planned hop was met.
-pub record Began {M : Type 0} (view : M → MediumView) (start : Frame) (r m : RingView M) : Type 0 where
+-- Party p took it, and its first frame is held, which was altered if and only if a planned hop was reached.
+pub record BeginWhole {M : Type 0} (view : M → MediumView) (start : Frame) (r m : RingView M) : Type 0 where
   pub now : IsHolding m
   pub added : Brings view r now.flight.source (λ gs. gs ≡ now.flight.sent ∷ []) None (entry 0 start (outcome.Taken now.flight.source) ∷ []) (Some now.flight.source) m
   pub talked : IsTalking now.flight.source None (devices_of r)
@@ -308,25 +308,25 @@ pub record Began {M : Type 0} (view : M → MediumView) (start : Frame) (r m : R
   pub unheard : Unheard r m
 
 -- It was lost, whatever was to come of it; or party p took it and its first frame was lost.
-pub data NotBegun {M : Type 0} (view : M → MediumView) (start : Frame) (r s : RingView M) : Type 0 where
-  StartLost : Broke view r (returned 0 start ∷ []) s → Unheard r s → NotBegun view start r s
-  FirstLost : (p : ℕ) (d : Echo) → is_echo d ≡ true → IsTalking p None (devices_of r) → (broke : Broke view r (entry 0 start (outcome.Taken p) ∷ echoed p d ∷ []) s) → (p < drive_party r → AllSpoken broke.adds.came) → Unheard r s → NotBegun view start r s
+pub data BeginBroken {M : Type 0} (view : M → MediumView) (start : Frame) (r s : RingView M) : Type 0 where
+  StartLost : Broke view r (returned 0 start ∷ []) s → Unheard r s → BeginBroken view start r s
+  FirstLost : (p : ℕ) (d : Echo) → is_echo d ≡ true → IsTalking p None (devices_of r) → (broke : Broke view r (entry 0 start (outcome.Taken p) ∷ echoed p d ∷ []) s) → (p < drive_party r → AllSpoken broke.adds.came) → Unheard r s → BeginBroken view start r s
 
 abbrev pub Begins : {M : Type 0} → (M → MediumView) → Frame → RingView M → Begun → RingView M → Type 0
 Begins view start r begun.NotTaken s = (whole : Whole view r (returned 0 start ∷ []) s) × (own_frames whole.adds.answers ≡ []) × (message_of start ≡ msg.Sai → Each IsNameless 1 (devices_of r)) × Unheard r s
-Begins view start r begun.Taken s = Began view start r s
-Begins view start r begun.Broken s = NotBegun view start r s
+Begins view start r begun.Taken s = BeginWhole view start r s
+Begins view start r begun.Broken s = BeginBroken view start r s
 
 -- ---- all frames of a talker
 
--- the entries behind that of the start message
-abbrev pub behind_start : Answer → List Entry
-behind_start NotTaken = []
-behind_start (ToItsEnd p ds) = map (echoed p) ds ++ entry p eto (outcome.Taken 0) ∷ []
-behind_start (Stopped p ds last) = map (echoed p) ds ++ returned 0 nrd ∷ echoed p last ∷ entry p eto (outcome.Taken 0) ∷ []
+-- the entries after that of the start message
+abbrev pub after_start : Answer → List Entry
+after_start NotTaken = []
+after_start (ToItsEnd p ds) = map (echoed p) ds ++ entry p eto (outcome.Taken 0) ∷ []
+after_start (Stopped p ds last) = map (echoed p) ds ++ returned 0 nrd ∷ echoed p last ∷ entry p eto (outcome.Taken 0) ∷ []
 
--- So many of them came back right, and the next is held. There are none where the first is the last.
-pub record SoFar {M : Type 0} (view : M → MediumView) (m : RingView M) (h : IsHolding m) (bytes : List ℕ) (s : RingView M) : Type 0 where
+-- This many of them came back right, and the next is held. There are none if the first is the last.
+pub record TakesSoFar {M : Type 0} (view : M → MediumView) (m : RingView M) (h : IsHolding m) (bytes : List ℕ) (s : RingView M) : Type 0 where
   pub ds : List Echo
   pub echoes : list_all is_echo ds ≡ true
   pub bytes_are : bytes ≡ bytes_of ds
@@ -334,70 +334,70 @@ pub record SoFar {M : Type 0} (view : M → MediumView) (m : RingView M) (h : Is
   pub source : now.flight.source ≡ h.flight.source
   pub alone : h.own.last ≡ true → (bytes ≡ []) × (now.own.last ≡ true) × (now.flight.sent ≡ h.flight.sent)
   pub added : Brings view m h.flight.source (λ gs. h.flight.sent ∷ gs ≡ frames_of ds ++ now.flight.sent ∷ []) (Some h.flight.source) (map (echoed h.flight.source) ds) (Some h.flight.source) s
-  pub met : MatchBool now.flight.altered (Spoilt m h s) (Clean m h s)
+  pub met : MatchBool now.flight.altered (ReachesFault m h s) (ReachesNoFault m h s)
   pub unheard : Unheard m s
 
 -- all came, and the talker ended, of itself or stopped
-pub record Took {M : Type 0} (view : M → MediumView) (m : RingView M) (h : IsHolding m) (stops : Bool) (bytes : List ℕ) (s : RingView M) : Type 0 where
+pub record TakesWhole {M : Type 0} (view : M → MediumView) (m : RingView M) (h : IsHolding m) (stops : Bool) (bytes : List ℕ) (s : RingView M) : Type 0 where
   pub answer : Answer
   pub talker : talker_of answer ≡ Some h.flight.source
   pub legal : is_answer 0 answer ≡ true
   pub stopped : is_stopped answer ≡ stops
   pub bytes_are : bytes ≡ received answer
   pub alone : h.own.last ≡ true → bytes ≡ byte_of h.flight.sent ∷ []
-  pub added : Brings view m h.flight.source (λ gs. h.flight.sent ∷ gs ≡ sent_frames answer ++ eto ∷ []) (Some h.flight.source) (behind_start answer) None s
+  pub added : Brings view m h.flight.source (λ gs. h.flight.sent ∷ gs ≡ sent_frames answer ++ eto ∷ []) (Some h.flight.source) (after_start answer) None s
   pub ring : IsRing s
   pub held : s.books.held ≡ None
-  pub clean : Clean m h s
+  pub clean : ReachesNoFault m h s
   pub unheard : Unheard m s
 
 -- they broke off; there was room for w bytes
-pub record NotTook {M : Type 0} (view : M → MediumView) (m : RingView M) (h : IsHolding m) (w : ℕ) (s : RingView M) : Type 0 where
+pub record TakesBroken {M : Type 0} (view : M → MediumView) (m : RingView M) (h : IsHolding m) (w : ℕ) (s : RingView M) : Type 0 where
   pub answer : Answer
   pub talker : talker_of answer ≡ Some h.flight.source
   pub legal : is_answer 0 answer ≡ true
   pub fitting : fits w answer ≡ true
   pub standing : ℕ
   pub break : Break
-  pub cuts : can_cut 0 (behind_start answer) standing break ≡ true
+  pub cuts : can_cut 0 (after_start answer) standing break ≡ true
   pub held_at_end : Option ℕ
-  pub ended : held_at_end ≡ held_after (Some h.flight.source) (cut_at (behind_start answer) standing break)
-  pub added : CutBrings view m h.flight.source (Some h.flight.source) (behind_start answer) standing break held_at_end s
+  pub ended : held_at_end ≡ held_after (Some h.flight.source) (cut_at (after_start answer) standing break)
+  pub added : CutBrings view m h.flight.source (Some h.flight.source) (after_start answer) standing break held_at_end s
   pub ring : IsRing s
   pub held : s.books.held ≡ None
-  pub spoilt : Spoilt m h s
+  pub spoilt : ReachesFault m h s
   pub unheard : Unheard m s
 
 -- ---- the calls
 
 -- of a place in front of the last one
 abbrev pub Fronts : {M : Type 0} → (M → MediumView) → RingView M → List ℕ → List ℕ → Front → RingView M → Type 0
-Fronts view m old new front.Full s = (length new ≡ length old) × ((h : IsHolding m) → SoFar view m h new s)
-Fronts view m old new (front.Ended n) s = (n ≤ length old) × (n ≡ length (take n new)) × (new ≡ take n new ++ drop n old) × ((h : IsHolding m) → Took view m h false (take n new) s)
-Fronts view m old new front.Broken s = (h : IsHolding m) → NotTook view m h (suc (length old)) s
+Fronts view m old new front.Full s = (length new ≡ length old) × ((h : IsHolding m) → TakesSoFar view m h new s)
+Fronts view m old new (front.Ended n) s = (n ≤ length old) × (n ≡ length (take n new)) × (new ≡ take n new ++ drop n old) × ((h : IsHolding m) → TakesWhole view m h false (take n new) s)
+Fronts view m old new front.Broken s = (h : IsHolding m) → TakesBroken view m h (suc (length old)) s
 
 -- of the last one
 abbrev pub Stops : {M : Type 0} → (M → MediumView) → RingView M → Bool → RingView M → Type 0
-Stops view m true s = (h : IsHolding m) → Took view m h true (byte_of h.flight.sent ∷ []) s
-Stops view m false s = (h : IsHolding m) → NotTook view m h 1 s
+Stops view m true s = (h : IsHolding m) → TakesWhole view m h true (byte_of h.flight.sent ∷ []) s
+Stops view m false s = (h : IsHolding m) → TakesBroken view m h 1 s
 
 -- of all
-pub record TookInto {M : Type 0} (view : M → MediumView) (m : RingView M) (h : IsHolding m) (old new : List ℕ) (n : ℕ) (s : RingView M) : Type 0 where
+pub record TakesInto {M : Type 0} (view : M → MediumView) (m : RingView M) (h : IsHolding m) (old new : List ℕ) (n : ℕ) (s : RingView M) : Type 0 where
   pub bytes : List ℕ
   pub count : n ≡ length bytes
   pub within : n ≤ length old
   pub filled : new ≡ bytes ++ drop n old
-  pub took : Took view m h (n == length old) bytes s
+  pub took : TakesWhole view m h (n == length old) bytes s
 
 abbrev pub TakesBytes : {M : Type 0} → (M → MediumView) → RingView M → List ℕ → List ℕ → Option ℕ → RingView M → Type 0
-TakesBytes view m old new None s = (h : IsHolding m) → NotTook view m h (length old) s
-TakesBytes view m old new (Some n) s = (h : IsHolding m) → TookInto view m h old new n s
+TakesBytes view m old new None s = (h : IsHolding m) → TakesBroken view m h (length old) s
+TakesBytes view m old new (Some n) s = (h : IsHolding m) → TakesInto view m h old new n s
 
 -- the one device that talked was the talker
 abbrev pub WasTalking : {M : Type 0} → Answer → RingView M → Type 0
 WasTalking answer r = IfSome (talker_of answer) (λ p. IsTalking p None (devices_of r))
 
--- Of SAI: the bytes tell the talker's accessory ID. It was not taken where no talker has one.
+-- Of SAI: the bytes show the talker's accessory ID. It was not taken if no talker has one.
 abbrev pub SaysId : Answer → List DeviceState → Type 0
 SaysId answer ds = MatchOption (talker_of answer) (Each IsNameless 1 ds) (λ p. received answer ≡ id_bytes (accessory_at (p - 1) ds))
 
@@ -407,7 +407,7 @@ pub record Answered {M : Type 0} (view : M → MediumView) (start : Start) (n : 
   pub legal : is_answer 0 answer ≡ true
   pub talked : WasTalking answer r
   pub whole : Whole view r (answer_entries 0 (start_frame start) answer) s
-  pub far : StandsBehind answer r → AllSpoken whole.adds.came
+  pub far : LiesAfter answer r → AllSpoken whole.adds.came
   pub said : SaysOf answer r → own_frames whole.adds.answers ≡ said_of answer
   pub count : n ≡ length (received answer)
   pub within : n ≤ length old
@@ -423,12 +423,12 @@ pub record NotAnswered {M : Type 0} (view : M → MediumView) (start : Start) (w
   pub fitting : fits w answer ≡ true
   pub broke : Broke view r (answer_entries 0 (start_frame start) answer) s
   pub ended : broke.held_at_end ≡ held_after None (cut_at (answer_entries 0 (start_frame start) answer) broke.standing broke.break)
-  pub far : StandsBehind answer r → AllSpoken broke.adds.came
+  pub far : LiesAfter answer r → AllSpoken broke.adds.came
   pub unheard : Unheard r s
 
 -- i of the places in front of the last one are filled
 pub record FrontAt {M : Type 0} (view : M → MediumView) (m : RingView M) (i : ℕ) (old now : List ℕ) (count : ℕ) (s : RingView M) : Type 0 where
-  pub so : (h : IsHolding m) → SoFar view m h (take i now) s
+  pub so : (h : IsHolding m) → TakesSoFar view m h (take i now) s
   pub rest : drop i now ≡ drop i old
   pub many : length now ≡ length old
   pub count_is : count ≡ i

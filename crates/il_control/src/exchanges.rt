@@ -1,4 +1,4 @@
-//! The exchanges of the controller on a ring: each makes its frames whole, or is broken off where a planned fault acts
+//! The exchanges of the controller on a ring: each makes its frames whole, or is broken off if a planned fault acts
 //! on one.
 ghost use Rattle.std.specs.Prelude.{◌≡◌, ◌≤◌, ◌<◌, ◌+◌, [], true, IfSome, IfOk, IfErr, not, is_some};
 ghost use Rattle.il_frames.specs.Messages.{message_of};
@@ -39,7 +39,7 @@ pub fn resume<M: Medium>(ring: &mut Ring<M>) -> Result<u8, Broken>
     }
 }
 
-/// Sends a command and awaits the handshake behind it.
+/// Sends a command and awaits the handshake after it.
 pub fn command<M: Medium>(ring: &mut Ring<M>, frame: Frame) -> Result<(), Broken>
     requires room { 34 ≤ spare_of (⟦<Ring<M> as Seen<M>>⟧.seen ring.old) }
     requires idle { IsIdle (⟦<Ring<M> as Seen<M>>⟧.seen ring.old) }
@@ -59,7 +59,7 @@ pub fn command<M: Medium>(ring: &mut Ring<M>, frame: Frame) -> Result<(), Broken
 }
 
 /// Sends the identify frame. What comes back has the bit of each device that is assigned one in
-/// the parallel poll and wants service, and the service bit where any wants it.
+/// the parallel poll and wants service, and the service bit if any wants it.
 pub fn identify<M: Medium>(ring: &mut Ring<M>) -> Result<Frame, Broken>
     requires room { 33 ≤ spare_of (⟦<Ring<M> as Seen<M>>⟧.seen ring.old) }
     requires idle { IsIdle (⟦<Ring<M> as Seen<M>>⟧.seen ring.old) }
@@ -75,8 +75,8 @@ pub fn identify<M: Medium>(ring: &mut Ring<M>) -> Result<Frame, Broken>
     }
 }
 
-/// Has the device of this address, 1 to 30, listen, and no other; behind that it sends device
-/// dependent listener command `number`, 0 to 31, where one is given.
+/// Has the device of this address, 1 to 30, listen, and no other; after that it sends device
+/// dependent listener command `number`, 0 to 31, if one is given.
 pub fn listen<M: Medium>(ring: &mut Ring<M>, address: u8, number: Option<u8>) -> Result<(), Broken>
     requires room { 38 ≤ spare_of (⟦<Ring<M> as Seen<M>>⟧.seen ring.old) }
     requires idle { IsIdle (⟦<Ring<M> as Seen<M>>⟧.seen ring.old) }
@@ -85,7 +85,7 @@ pub fn listen<M: Medium>(ring: &mut Ring<M>, address: u8, number: Option<u8>) ->
     ensures made { IfOk result (λ done. Made M.view (Send address number []) (⟦<Ring<M> as Seen<M>>⟧.seen ring.old) (⟦<Ring<M> as Seen<M>>⟧.seen ring.new)) }
     ensures told { IfOk result (λ done. Each (IsTold address) 1 (devices_of (⟦<Ring<M> as Seen<M>>⟧.seen ring.new))) }
     ensures broken { IfErr result (λ broken. BrokenOff M.view (Send address number []) (⟦<Ring<M> as Seen<M>>⟧.seen ring.old) (⟦<Ring<M> as Seen<M>>⟧.seen ring.new)) }
-    // No device hears anything, and each keeps its place in the parallel poll; and where no command is given, its wish
+    // No device hears anything, and each keeps its place in the parallel poll; and if no command is given, its wish
     // for service.
     ensures stays { AllStay (not (is_some number)) (⟦<Ring<M> as Seen<M>>⟧.seen ring.old) (⟦<Ring<M> as Seen<M>>⟧.seen ring.new) }
 {
@@ -96,7 +96,7 @@ pub fn listen<M: Medium>(ring: &mut Ring<M>, address: u8, number: Option<u8>) ->
     }
 }
 
-/// Sends a byte, which each listening device hears. It was sent where its frame came back the
+/// Sends a byte, which each listening device hears. It was sent if its frame came back the
 /// same apart from the service bit. It is inlined, with its round, where a record's bytes are sent one after the other.
 #[inline(always)]
 pub fn send_byte<M: Medium>(ring: &mut Ring<M>, byte: u8) -> Result<(), Broken>

@@ -17,7 +17,7 @@ use il_ring::{Arrival, Ring, Seen};
 pub(crate) enum Handed {
     /// It came back: nobody took it.
     NotTaken,
-    /// A second controller took it, and the first frame of its rounds stands at the host.
+    /// A second controller took it, and the first frame of its rounds is at the host.
     Taken,
     /// It was lost, or that frame was.
     Broken,
@@ -42,7 +42,7 @@ fn hand_over<M: Medium>(ring: &mut Ring<M>) -> Handed
     }
 }
 
-/// Lets a second controller go on with its rounds until so many frames have come to the host since it took control. One
+/// Lets a second controller go on with its rounds until `limit` frames have come to the host since it took control. One
 /// has.
 pub(crate) fn poll<M: Medium>(ring: &mut Ring<M>, limit: u16) -> bool
     requires some { 1 ≤ limit }
@@ -59,12 +59,12 @@ pub(crate) fn poll<M: Medium>(ring: &mut Ring<M>, limit: u16) -> bool
     true
 }
 
-/// Hands control of the loop to the second controller, where it stands at this address, 1 to 30: the device there is to
+/// Hands control of the loop to the second controller, if it is at this address, 1 to 30: the device there is to
 /// talk, and TCT is sent. While the second controller polls, each of its frames comes past the host; at the one that is
 /// the `limit`-th, 1 to 4,096, the host takes control back by IFC. Answers whether a second controller took control.
-/// Where none did, TCT came back, and no device talks any more.
+/// If none did, TCT came back, and no device talks any more.
 ///
-/// The error comes where a frame was lost, or a status came back to its device with another byte. The second controller
+/// The error comes if a frame was lost, or a status came back to its device with another byte. The second controller
 /// may control the loop still; `resume` takes control back. Source: HP-IL Interface Specification, HP 82166-90017, take
 /// control and interface clear; that the host counts frames is this project's own.
 pub fn lend<M: Medium>(ring: &mut Ring<M>, address: u8, limit: u16) -> Result<bool, Broken>

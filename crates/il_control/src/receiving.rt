@@ -1,4 +1,4 @@
-// What the controller does to receive from a talker, one round behind the other.
+// What the controller does to receive from a talker, one round after the other.
 ghost use Rattle.std.specs.Prelude.{◌≡◌, ◌≤◌, ◌<◌, ◌+◌, ◌++◌, true, length, IfSome, IsSome, IfOk, IfErr, MatchBool, MatchOption};
 ghost use Rattle.il_frames.specs.Frames.{byte_of};
 ghost use Rattle.il_frames.specs.NamedFrames.{tad, ddt, unt};
@@ -8,7 +8,7 @@ ghost use Rattle.il_ring.specs.Guests.{IsUnderHost};
 ghost use Rattle.il_ring.specs.Rings.{spare_of, roles_of, devices_of};
 ghost use Rattle.il_ring.specs.Lists.{Each};
 ghost use Rattle.il_control.specs.Calls.{Whole, Broke, IsFree, IsIdle};
-ghost use Rattle.il_control.specs.Receives.{Asked, IsCalm, IsDeaf, IsHolding, IsOnward, WentAs, Begins, Fronts, Stops, TakesBytes, Answered, NotAnswered, start_of, Received, NotReceived};
+ghost use Rattle.il_control.specs.Receives.{Asked, IsCalm, IsDeaf, IsHolding, IsOnward, RelaysAs, Begins, Fronts, Stops, TakesBytes, Answered, NotAnswered, start_of, Received, NotReceived};
 
 use crate::exchanges::Broken;
 use crate::frames::Sot;
@@ -33,24 +33,24 @@ pub(crate) enum Begun {
 pub(crate) enum Onward {
     /// The next frame of that device is held.
     More,
-    /// The device ended the transmission behind the right echo.
+    /// The device ended the transmission after the right echo.
     Ended,
     /// A frame was lost, or the echo was wrong.
     Broken,
 }
 
-/// What became of the frames of a talker for which there was room, but for the last.
+/// What became of the frames of a talker for which there was room, except the last.
 #[derive(Clone, Copy)]
 pub(crate) enum Front {
     /// All came, and another one is held.
     Full,
-    /// The talker ended behind so many.
+    /// The talker ended after this many.
     Ended(usize),
     /// A frame was lost, or an echo was wrong.
     Broken,
 }
 
-/// Has the device of this address talk, and no device listen, and sends the DDT of a number behind that.
+/// Has the device of this address talk, and no device listen, and sends the DDT of a number after that.
 pub(crate) fn ask<M: Medium>(ring: &mut Ring<M>, address: u8, number: Option<u8>) -> bool
     requires room { 38 ≤ spare_of (⟦<Ring<M> as Seen<M>>⟧.seen ring.old) }
     requires free { IsFree (⟦<Ring<M> as Seen<M>>⟧.seen ring.old) }
@@ -64,7 +64,7 @@ pub(crate) fn ask<M: Medium>(ring: &mut Ring<M>, address: u8, number: Option<u8>
     command(ring, Frame::of(Message::Unl)) && ask_one(ring, address, number)
 }
 
-/// Has the device of this address talk, and sends the DDT of a number behind that.
+/// Has the device of this address talk, and sends the DDT of a number after that.
 fn ask_one<M: Medium>(ring: &mut Ring<M>, address: u8, number: Option<u8>) -> bool
     requires room { 36 ≤ spare_of (⟦<Ring<M> as Seen<M>>⟧.seen ring.old) }
     requires free { IsFree (⟦<Ring<M> as Seen<M>>⟧.seen ring.old) }
@@ -79,7 +79,7 @@ fn ask_one<M: Medium>(ring: &mut Ring<M>, address: u8, number: Option<u8>) -> bo
     command(ring, Frame::of(Message::Tad(address))) && command_of(ring, number)
 }
 
-/// Sends the DDT of a number, where one is given.
+/// Sends the DDT of a number, if one is given.
 fn command_of<M: Medium>(ring: &mut Ring<M>, number: Option<u8>) -> bool
     requires room { 34 ≤ spare_of (⟦<Ring<M> as Seen<M>>⟧.seen ring.old) }
     requires free { IsFree (⟦<Ring<M> as Seen<M>>⟧.seen ring.old) }
@@ -117,7 +117,7 @@ fn begin<M: Medium>(ring: &mut Ring<M>, start: Sot) -> Begun
     }
 }
 
-/// What it means that this arrived behind a frame that went on.
+/// What it means that this arrived after a frame that went on.
 fn onward_of(arrival: Arrival) -> Onward
     ensures { IsOnward arrival result }
 {
@@ -139,19 +139,19 @@ fn onward_of(arrival: Arrival) -> Onward
 fn relay<M: Medium>(ring: &mut Ring<M>) -> Onward
     requires room { 32 ≤ spare_of (⟦<Ring<M> as Seen<M>>⟧.seen ring.old) }
     requires held { IsSome (⟦<Ring<M> as Seen<M>>⟧.seen ring.old).books.held }
-    ensures { WentAs M.view (⟦<Ring<M> as Seen<M>>⟧.seen ring.old) result (⟦<Ring<M> as Seen<M>>⟧.seen ring.new) }
+    ensures { RelaysAs M.view (⟦<Ring<M> as Seen<M>>⟧.seen ring.old) result (⟦<Ring<M> as Seen<M>>⟧.seen ring.new) }
 {
     onward_of(ring.relay())
 }
 
-/// The same, while it goes on again and again. It is inlined, as all that `take_on` calls is, so that the held frame
+/// Sends the held frame on, again and again. It is inlined, as all that `take_on` calls is, so that the held frame
 /// can stay in registers from one byte to the next.
 #[inline(always)]
 fn relay_on<'r, M: Medium>(ring: &mut Running<'r, M>) -> Onward
     requires room { 32 ≤ spare_of (⟦<Running<'r, M> as Seen<M>>⟧.seen ring.old) }
     requires held { IsSome (⟦<Running<'r, M> as Seen<M>>⟧.seen ring.old).books.held }
     ensures same_reference { ring.new.ring.ghost_name ≡ ring.old.ring.ghost_name }
-    ensures went { WentAs M.view (⟦<Running<'r, M> as Seen<M>>⟧.seen ring.old) result (⟦<Running<'r, M> as Seen<M>>⟧.seen ring.new) }
+    ensures went { RelaysAs M.view (⟦<Running<'r, M> as Seen<M>>⟧.seen ring.old) result (⟦<Running<'r, M> as Seen<M>>⟧.seen ring.new) }
 {
     onward_of(ring.relay())
 }
@@ -185,7 +185,7 @@ fn take_front<M: Medium>(ring: &mut Ring<M>, front: &mut [u8]) -> Front
     taken
 }
 
-/// The same on a running ring: the held frame is in `ring` itself, and not behind a pointer.
+/// Does the same as `take_front` on a running ring: the held frame is in `ring` itself, and not after a pointer.
 #[inline(always)]
 fn take_on<'r, M: Medium>(ring: &mut Running<'r, M>, front: &mut [u8]) -> Front
     requires room { 34 + length front.old ≤ spare_of (⟦<Running<'r, M> as Seen<M>>⟧.seen ring.old) }
@@ -206,7 +206,7 @@ fn take_on<'r, M: Medium>(ring: &mut Running<'r, M>, front: &mut [u8]) -> Front
     Front::Full
 }
 
-/// Has the talker stop behind the held frame, which goes on, and awaits its end.
+/// Has the talker stop after the held frame, which goes on, and awaits its end.
 fn stop<M: Medium>(ring: &mut Ring<M>) -> bool
     requires room { 34 ≤ spare_of (⟦<Ring<M> as Seen<M>>⟧.seen ring.old) }
     requires holding { IsHolding (⟦<Ring<M> as Seen<M>>⟧.seen ring.old) }
@@ -256,9 +256,9 @@ fn answer<M: Medium>(ring: &mut Ring<M>, start: Sot, into: &mut [u8]) -> Option<
 }
 
 /// Has the device of this address, 1 to 30, talk, and takes the bytes that it sends into the front of `into`, to its
-/// end or until `into` is full; then it talks no more. Behind the talk address it sends device dependent talker command
-/// `number`, 0 to 31, where one is given. Answers how many bytes came, none where no device took the start message. A
-/// talker that fills `into` is stopped at that byte. Where a frame was lost or came back to the talker with another
+/// end or until `into` is full; then it talks no more. After the talk address it sends device dependent talker command
+/// `number`, 0 to 31, if one is given. Answers how many bytes came, none if no device took the start message. A
+/// talker that fills `into` is stopped at that byte. If a frame was lost or came back to the talker with another
 /// byte, the bytes in `into` are any.
 pub fn receive<M: Medium>(
     ring: &mut Ring<M>,

@@ -1,4 +1,4 @@
-// What the controller does on the ring, one round behind the other. Each answers whether it was done whole.
+// What the controller does on the ring, one round after the other. Each answers whether it was done whole.
 ghost use Rattle.std.specs.Prelude.{◌≡◌, ◌≤◌, ◌<◌, ◌+◌, [], ◌∷◌, ◌++◌, length, true, false, MatchBool, IfSome, not, is_some};
 ghost use Rattle.il_frames.specs.Messages.{message_of};
 ghost use Rattle.il_device.specs.Passing.{is_plain};
@@ -40,7 +40,7 @@ pub(crate) fn pass_round<M: Medium>(ring: &mut Ring<M>, frame: Frame) -> bool
     came_back(ring.send(frame))
 }
 
-/// Sends a command and waits for the handshake behind it.
+/// Sends a command and waits for the handshake after it.
 pub(crate) fn command<M: Medium>(ring: &mut Ring<M>, frame: Frame) -> bool
     requires room { 33 ≤ spare_of (⟦<Ring<M> as Seen<M>>⟧.seen ring.old) }
     requires free { IsFree (⟦<Ring<M> as Seen<M>>⟧.seen ring.old) }
@@ -56,7 +56,7 @@ pub(crate) fn command<M: Medium>(ring: &mut Ring<M>, frame: Frame) -> bool
     pass_round(ring, frame) && pass_round(ring, Frame::of(Message::Rfc))
 }
 
-/// Has the device of this address listen, and no other, and sends the DDL of a number behind that.
+/// Has the device of this address listen, and no other, and sends the DDL of a number after that.
 pub(crate) fn tell<M: Medium>(ring: &mut Ring<M>, address: u8, number: Option<u8>) -> bool
     requires room { 38 ≤ spare_of (⟦<Ring<M> as Seen<M>>⟧.seen ring.old) }
     requires free { IsFree (⟦<Ring<M> as Seen<M>>⟧.seen ring.old) }
@@ -70,7 +70,7 @@ pub(crate) fn tell<M: Medium>(ring: &mut Ring<M>, address: u8, number: Option<u8
     command(ring, Frame::of(Message::Unl)) && tell_one(ring, address, number)
 }
 
-/// Has the device of this address listen, and sends the DDL of a number behind that.
+/// Has the device of this address listen, and sends the DDL of a number after that.
 fn tell_one<M: Medium>(ring: &mut Ring<M>, address: u8, number: Option<u8>) -> bool
     requires room { 36 ≤ spare_of (⟦<Ring<M> as Seen<M>>⟧.seen ring.old) }
     requires free { IsFree (⟦<Ring<M> as Seen<M>>⟧.seen ring.old) }
@@ -85,7 +85,7 @@ fn tell_one<M: Medium>(ring: &mut Ring<M>, address: u8, number: Option<u8>) -> b
     command(ring, Frame::of(Message::Lad(address))) && command_of(ring, number)
 }
 
-/// Sends the DDL of a number, where one is given.
+/// Sends the DDL of a number, if one is given.
 fn command_of<M: Medium>(ring: &mut Ring<M>, number: Option<u8>) -> bool
     requires room { 34 ≤ spare_of (⟦<Ring<M> as Seen<M>>⟧.seen ring.old) }
     requires free { IsFree (⟦<Ring<M> as Seen<M>>⟧.seen ring.old) }
@@ -102,8 +102,8 @@ fn command_of<M: Medium>(ring: &mut Ring<M>, number: Option<u8>) -> bool
     }
 }
 
-/// Sends a byte, and tells whether its frame came back the same apart from the service bit. An idle loop holds no frame
-/// and is the host's, so `send_soon` may send it.
+/// Sends a byte, and returns whether its frame came back the same apart from the service bit. An idle loop holds no
+/// frame and is the host's, so `send_soon` may send it.
 #[inline(always)]
 pub(crate) fn byte_round<M: Medium>(ring: &mut Ring<M>, byte: u8) -> bool
     requires room { 33 ≤ spare_of (⟦<Ring<M> as Seen<M>>⟧.seen ring.old) }
@@ -131,7 +131,7 @@ fn take_control<M: Medium>(ring: &mut Ring<M>) -> bool
     came_back(ring.send(Frame::of(Message::Ifc)))
 }
 
-/// Clears the interface, and waits for the handshake behind it.
+/// Clears the interface, and waits for the handshake after it.
 pub(crate) fn clear_interface<M: Medium>(ring: &mut Ring<M>) -> bool
     requires room { 33 ≤ spare_of (about_to_send (⟦<Ring<M> as Seen<M>>⟧.seen ring.old)) }
     requires free { IsFree (about_to_send (⟦<Ring<M> as Seen<M>>⟧.seen ring.old)) }
@@ -140,7 +140,7 @@ pub(crate) fn clear_interface<M: Medium>(ring: &mut Ring<M>) -> bool
     ensures obeyed { result ≡ true → Obeyed (message_of ifc) (about_to_send (⟦<Ring<M> as Seen<M>>⟧.seen ring.old)) (⟦<Ring<M> as Seen<M>>⟧.seen ring.new) }
     ensures part { ObeyedInPart (message_of ifc) (about_to_send (⟦<Ring<M> as Seen<M>>⟧.seen ring.old)) (⟦<Ring<M> as Seen<M>>⟧.seen ring.new) }
     ensures host { result ≡ true → IsUnderHost (⟦<Ring<M> as Seen<M>>⟧.seen ring.new).guest }
-    // Where IFC came back the host controls, whatever became of the handshake.
+    // If IFC came back the host controls, whatever became of the handshake.
     ensures ready { length (⟦<Ring<M> as Seen<M>>⟧.seen ring.new).books.log ≡ length (about_to_send (⟦<Ring<M> as Seen<M>>⟧.seen ring.old)).books.log + 2 → IsUnderHost (⟦<Ring<M> as Seen<M>>⟧.seen ring.new).guest }
 {
     take_control(ring) && pass_round(ring, Frame::of(Message::Rfc))

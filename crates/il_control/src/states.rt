@@ -57,7 +57,7 @@ impl<M: Medium> Seen<M> for Sending<M> {
 }
 
 impl<M: Medium> Sending<M> {
-    /// Sends a byte, which each listening device hears. It was sent where its frame came back the
+    /// Sends a byte, which each listening device hears. It was sent if its frame came back the
     /// same apart from the service bit.
     pub fn byte(self, byte: u8) -> Result<Sending<M>, Lost<M>>
         requires room { 33 ≤ spare_of (⟦<Sending<M> as Seen<M>>⟧.seen self) }
@@ -126,7 +126,7 @@ impl<M: Medium> Lost<M> {
         }
     }
 
-    /// The ring, as it stands.
+    /// The ring, as it is.
     pub fn into_ring(self) -> Ring<M>
         ensures { ⟦<Ring<M> as Seen<M>>⟧.seen result ≡ ⟦<Lost<M> as Seen<M>>⟧.seen self }
     {
@@ -151,7 +151,7 @@ impl<M: Medium> Lost<M> {
 }
 
 impl<M: Medium> Idle<M> {
-    /// Sends a command and awaits the handshake behind it.
+    /// Sends a command and awaits the handshake after it.
     pub fn command(self, frame: Frame) -> Result<Idle<M>, Lost<M>>
         requires room { 34 ≤ spare_of (⟦<Idle<M> as Seen<M>>⟧.seen self) }
         requires idle { IsIdle (⟦<Idle<M> as Seen<M>>⟧.seen self) }
@@ -171,7 +171,7 @@ impl<M: Medium> Idle<M> {
     }
 
     /// Sends the identify frame. What comes back has the bit of each device that is assigned one in
-    /// the parallel poll and wants service, and the service bit where any wants it.
+    /// the parallel poll and wants service, and the service bit if any wants it.
     pub fn identify(self) -> Result<(Idle<M>, Frame), Lost<M>>
         requires room { 33 ≤ spare_of (⟦<Idle<M> as Seen<M>>⟧.seen self) }
         requires idle { IsIdle (⟦<Idle<M> as Seen<M>>⟧.seen self) }
@@ -189,15 +189,15 @@ impl<M: Medium> Idle<M> {
         }
     }
 
-    /// Has the device of this address, 1 to 30, listen, and no other; behind that it sends device
-    /// dependent listener command `number`, 0 to 31, where one is given.
+    /// Has the device of this address, 1 to 30, listen, and no other; after that it sends device
+    /// dependent listener command `number`, 0 to 31, if one is given.
     pub fn listen(self, address: u8, number: Option<u8>) -> Result<Sending<M>, Lost<M>>
         requires room { 38 ≤ spare_of (⟦<Idle<M> as Seen<M>>⟧.seen self) }
         requires idle { IsIdle (⟦<Idle<M> as Seen<M>>⟧.seen self) }
         requires address { (1 ≤ address) × (address ≤ 30) }
         requires number { IfSome number (λ n. n < 32) }
         ensures made { IfOk result (λ sending. Made M.view (Send address number []) (⟦<Idle<M> as Seen<M>>⟧.seen self) (⟦<Sending<M> as Seen<M>>⟧.seen sending)) }
-        // No device hears anything, and each keeps its place in the parallel poll; and where no command is given, its
+        // No device hears anything, and each keeps its place in the parallel poll; and if no command is given, its
         // wish for service.
         ensures stays { IfOk result (λ sending. AllStay (not (is_some number)) (⟦<Idle<M> as Seen<M>>⟧.seen self) (⟦<Sending<M> as Seen<M>>⟧.seen sending)) }
         ensures stays_lost { IfErr result (λ lost. AllStay (not (is_some number)) (⟦<Idle<M> as Seen<M>>⟧.seen self) (⟦<Lost<M> as Seen<M>>⟧.seen lost)) }
@@ -212,9 +212,9 @@ impl<M: Medium> Idle<M> {
     }
 
     /// Has the device of this address, 1 to 30, talk, and takes the bytes that it sends into the front of `into`, to
-    /// its end or until `into` is full; then it talks no more. Behind the talk address it sends device dependent talker
-    /// command `number`, 0 to 31, where one is given. Answers how many bytes came, none where no device took the start
-    /// message. A talker that fills `into` is stopped at that byte. Where a frame was lost or came back to the talker
+    /// its end or until `into` is full; then it talks no more. After the talk address it sends device dependent talker
+    /// command `number`, 0 to 31, if one is given. Answers how many bytes came, none if no device took the start
+    /// message. A talker that fills `into` is stopped at that byte. If a frame was lost or came back to the talker
     /// with another byte, the bytes in `into` are any.
     pub fn receive(
         self,
@@ -238,12 +238,12 @@ impl<M: Medium> Idle<M> {
         }
     }
 
-    /// Hands control of the loop to the second controller, where it stands at this address, 1 to 30: the device there
+    /// Hands control of the loop to the second controller, if it is at this address, 1 to 30: the device there
     /// is to talk, and TCT is sent. While the second controller polls, each of its frames comes past the host; at the
     /// one that is the `limit`-th, 1 to 4,096, the host takes control back by IFC. Answers whether a second controller
-    /// took control. Where none did, TCT came back, and no device talks any more.
+    /// took control. If none did, TCT came back, and no device talks any more.
     ///
-    /// The error comes where a frame was lost, or a status came back to its device with another byte. The second
+    /// The error comes if a frame was lost, or a status came back to its device with another byte. The second
     /// controller may control the loop still; `resume` takes control back. Source: HP-IL Interface Specification, HP
     /// 82166-90017, take control and interface clear; that the host counts frames is this project's own.
     pub fn lend(self, address: u8, limit: u16) -> Result<(Idle<M>, bool), Lost<M>>

@@ -132,7 +132,7 @@ identify = refl
 identify_none : identified (Some (assigned 1)) false (framed class.Idy 0x80) ≡ framed class.Idy 0x82
 identify_none = refl
 
--- AAD 01 goes on as AAD 02 behind a device that takes it, and AAD 30 as IAA
+-- AAD 01 goes on as AAD 02 after a device that takes it, and AAD 30 as IAA
 aad_counted : passed no_roles None false (framed class.Rdy 0x81) ≡ framed class.Rdy 0x82
 aad_counted = refl
 
@@ -255,7 +255,7 @@ frame_of (Source f) = f
 stopped_sends_none : AnswersEcho true (record letter { stopped = true }) (Source (framed class.Dab 0x42)) (standing talker None) → ⊥
 stopped_sends_none h = let clash : class.Dab ≡ class.Rdy = ap (λ (o : Out). class_of (frame_of o)) h.answer in absurd (cc)
 
--- the part that every device has alike, behind AAD 01
+-- the part that every device has alike, after AAD 01
 interface_aad : (interface_after (fresh_interface None) (framed class.Rdy 0x81)).roles.address ≡ Some 1
 interface_aad = refl
 

@@ -108,7 +108,7 @@ pub message_of-aad : (n : ℕ) → n ≤ 30 → message_of (framed class.Rdy (0x
 message_of-aad n h =
     is_aad-true n (message_at class.Rdy (0x80 + n)) (all_below-at (λ k. is_aad k (message_at class.Rdy (0x80 + k))) 31 n all_aad (omega arith))
 
--- behind a device that takes the address a below 30 goes AAD a + 1
+-- after a device that takes the address a below 30 goes AAD a + 1
 pub message_of-counted_on : (a : ℕ) (f : Frame) → a < 30 →
     message_of (counted_on true a f) ≡ msg.Aad (a + 1)
 message_of-counted_on a f h = message_of-aad (a + 1) (omega arith)

@@ -31,7 +31,7 @@ length-heard_after turn.Begin room heard byte le = le
 length-heard_after (turn.Identify id) room heard byte le = le
 length-heard_after (turn.Compare own) room heard byte le = le
 
--- the interface k is behind the effect of the frame and the answer, which changes the own frame and the
+-- the interface k is after the effect of the frame and the answer, which changes the own frame and the
 -- status alone
 pub record Behind (i : InterfaceState) (f : Frame) (k : InterfaceState) : Type 0 where
   pub rest : k ≡ record (interface_after i f) { own = k.own; service = record (interface_after i f).service { status = k.service.status } }
@@ -118,7 +118,7 @@ heard_after-roomless turn.Begin byte = refl
 heard_after-roomless (turn.Identify id) byte = refl
 heard_after-roomless (turn.Compare own) byte = refl
 
--- a device may end each transmission behind its first frame
+-- a device may end each transmission after its first frame
 ended : (over : Bool) (out : Out) (t : DeviceState) → Ends eto out t → GoesOn over out t
 ended true out t h = h
 ended false out t h = inl h

@@ -52,7 +52,7 @@ turn_on i f = turn_at i.roles i.own i.accessory (message_of f)
 abbrev pub placed : Service → Option Assignment → Service
 placed service place = record service { assignment = place }
 
--- behind what a message does to the roles, the own frame and the place in the poll. Data does nothing
+-- after what a message does to the roles, the own frame and the place in the poll. Data does nothing
 -- to them
 abbrev pub obeyed : InterfaceState → Message → InterfaceState
 obeyed i m = record i {
@@ -61,14 +61,14 @@ obeyed i m = record i {
   service = placed i.service (assignment_after i.roles i.service.assignment m);
 }
 
--- behind the effect of a frame, and before the answer
+-- after the effect of a frame, and before the answer
 abbrev pub interface_after : InterfaceState → Frame → InterfaceState
 interface_after i f = record (obeyed i (message_of f)) {
   heard_count = count_after (turn_on i f) i.heard_count;
   frames = risen i.frames;
 }
 
--- behind a frame that the device sent, or behind the end of a transmission
+-- after a frame that the device sent, or after the end of a transmission
 abbrev pub sending : InterfaceState → Option OwnFrame → InterfaceState
 sending i own = record i { own = own }
 
@@ -76,7 +76,7 @@ sending i own = record i { own = own }
 abbrev pub with_status : InterfaceState → ℕ → InterfaceState
 with_status i status = record i { service = record i.service { status = status } }
 
--- the frame that goes on behind the effect; as it came the device had the roles `before`
+-- the frame that goes on after the effect; as it came the device had the roles `before`
 abbrev pub passed_on : InterfaceState → Roles → Frame → Frame
 passed_on i before f = passed before i.service.assignment (wants_service i.service.status) f
 

@@ -16,12 +16,12 @@ abbrev pub served : Bool → Frame → Frame
 served false f = f
 served true f = with_service f
 
--- the identify frame behind a device: the poll's bits, and the service bit
+-- the identify frame after a device: the poll's bits, and the service bit
 abbrev pub identified : Option Assignment → Bool → Frame → Frame
 identified place wants f = served wants (framed (class_of f) (polled place wants (byte_of f)))
 
 -- AAD, whose byte is 80 hex and the number: a device that takes the address passes the next number on;
--- behind 30 this is the byte of IAA
+-- after 30 this is the byte of IAA
 abbrev pub counted_on : Bool → ℕ → Frame → Frame
 counted_on false a f = f
 counted_on true a f = framed class.Rdy (0x80 + (a + 1))
@@ -36,7 +36,7 @@ passed_as r place wants f (msg.Isr b) = identified place wants f
 passed_as r place wants f (msg.Aad a) = counted_on (takes_address r.address a) a f
 passed_as r place wants f _ = f
 
--- the frame that goes on behind a device which had these roles as it came, and has this place in a
+-- the frame that goes on after a device which had these roles as it came, and has this place in a
 -- poll and wants service or not as it goes on
 abbrev pub passed : Roles → Option Assignment → Bool → Frame → Frame
 passed r place wants f = passed_as r place wants f (message_of f)

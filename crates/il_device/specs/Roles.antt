@@ -23,7 +23,7 @@ abbrev pub takes_address : Option ℕ → ℕ → Bool
 takes_address None a = nat_le 1 a && nat_le a 30
 takes_address (Some b) a = false
 
--- the roles behind a message: a talker that is told to listen talks no more, and the other way round
+-- the roles after a message: a talker that is told to listen talks no more, and the other way round
 abbrev pub roles_after : Roles → Message → Roles
 roles_after r msg.Ifc = record r { talks = false; listens = false }
 roles_after r msg.Aau = no_roles
@@ -41,7 +41,7 @@ abbrev pub stopped : Option OwnFrame → Option OwnFrame
 stopped None = None
 stopped (Some own) = Some (record own { stopped = true })
 
--- the own frame behind a message, before the device answers: it ends where talking ends, and where
+-- the own frame after a message, before the device answers: it ends where talking ends, and where
 -- talking begins anew
 abbrev pub own_after : Roles → Option OwnFrame → Message → Option OwnFrame
 own_after r own msg.Ifc = None
@@ -52,7 +52,7 @@ own_after r own (msg.Lad a) = if is_own r.address a then None else own
 own_after r own msg.Nrd = stopped own
 own_after r own _ = own
 
--- the place in a parallel poll behind a message: PPE and PPD are for listeners, PPU for all
+-- the place in a parallel poll after a message: PPE and PPD are for listeners, PPU for all
 abbrev pub assignment_after : Roles → Option Assignment → Message → Option Assignment
 assignment_after r place (msg.Ppe n) = if r.listens then Some (assigned n) else place
 assignment_after r place msg.Ppd = if r.listens then None else place

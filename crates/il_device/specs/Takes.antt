@@ -1,5 +1,5 @@
 -- What every device does with a frame: the relation of its state as the frame comes, the frame, its
--- answer and its state behind the answer. Source: HP-IL Interface Specification, HP 82166-90017, as
+-- answer and its state after the answer. Source: HP-IL Interface Specification, HP 82166-90017, as
 -- far as roles, handshakes and polls go.
 use Rattle.std.specs.Prelude.{ℕ, ◌≡◌, ◌⊎◌, ◌++◌, ◌∷◌, [], ◌||◌, Bool, true, false, if◌then◌else◌, nat_lt, Option, Some, None, List, length}
 use Rattle.il_frames.specs.declared.frame.Class.TheVariants as class
@@ -126,7 +126,7 @@ just_sent f last = record { frame = f; last = last; stopped = false }
 abbrev pub identity : ℕ → OwnFrame
 identity id = just_sent (framed class.Dab id) true
 
--- behind the right echo a device that is stopped, or has nothing more to send, ends with ETO; another
+-- after the right echo a device that is stopped, or has nothing more to send, ends with ETO; another
 -- one goes on, or ends with ETO
 abbrev pub GoesOn : Bool → Out → DeviceState → Type 0
 GoesOn true out t = Ends eto out t
@@ -137,7 +137,7 @@ abbrev pub AnswersEcho : Bool → OwnFrame → Out → DeviceState → Type 0
 AnswersEcho false own out t = Ends ete out t
 AnswersEcho true own out t = GoesOn (own.stopped || own.last) out t
 
--- the answer, and the own frame behind it
+-- the answer, and the own frame after it
 abbrev pub Answers : Turn → DeviceState → Frame → Out → DeviceState → Type 0
 Answers turn.Pass s f out t = Passes s f out t
 Answers turn.Hear s f out t = Passes s f out t

@@ -24,9 +24,9 @@ use std::marker::Model;
 pub struct OwnFrame {
     /// The frame as it was sent.
     pub frame: Frame,
-    /// No other frame follows: behind the right echo comes ETO.
+    /// No other frame follows: after the right echo comes ETO.
     pub last: bool,
-    /// NRD came: behind the right echo comes ETO.
+    /// NRD came: after the right echo comes ETO.
     pub stopped: bool,
 }
 
@@ -41,7 +41,7 @@ pub enum Turn {
     Begin,
     /// SAI to a talker: to send this accessory ID.
     Identify(u8),
-    /// Data behind an own frame: to compare the two.
+    /// Data after an own frame: to compare the two.
     Compare(OwnFrame),
 }
 
@@ -262,7 +262,7 @@ impl Interface {
         turn
     }
 
-    /// The frame that goes on, behind its effect. As it came the roles were `before`.
+    /// The frame that goes on, after its effect. As it came the roles were `before`.
     #[inline(always)]
     pub fn passed(&self, before: Roles, frame: Frame) -> Frame
         ensures { result ≡ passed_on self.now before frame }
@@ -359,7 +359,7 @@ fn served(wants: bool, frame: Frame) -> Frame
     if wants { frame.with_service() } else { frame }
 }
 
-/// The own frame behind a message.
+/// The own frame after a message.
 fn own_behind(roles: Roles, own: Option<OwnFrame>, message: Message) -> Option<OwnFrame>
     ensures { result ≡ own_after roles own message }
 {

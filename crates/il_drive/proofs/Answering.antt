@@ -44,11 +44,11 @@ asked_changes r own accessory _ = inl refl
 
 -- ---- the facts
 
--- the interface behind the effect of the frame, with another own frame and another status
+-- the interface after the effect of the frame, with another own frame and another status
 abbrev pub IsBehind : InterfaceState → InterfaceState → Type 0
 IsBehind j k = k ≡ record j { own = k.own; service = record j.service { status = k.service.status } }
 
--- What holds of the drive s, of the frame f that asks this of it, and of the drive and the answer behind it, where
+-- What holds of the drive s, of the frame f that asks this of it, and of the drive and the answer after it, where
 -- the medium has failed or not.
 pub record Fact (asked : Turn) (n : ℕ) (s : DriveState) (f : Frame) (failed : Bool) (x : DriveState × Out) : Type 0 where
   pub behind : IsBehind (interface_after s.interface f) x.0.interface
@@ -124,14 +124,14 @@ eto_is_not_ete : Source eto ≡ Source ete → ⊥
 unfolding sourced
 eto_is_not_ete e = let clash : eto.byte ≡ ete.byte = ap (λ (out : Out). (sourced out ete).byte) e in absurd (omega (arith, clash))
 
--- behind the right echo ETE is not sent
+-- after the right echo ETE is not sent
 eto_right : (own : OwnFrame) (f : Frame) → same_but_service own.frame f ≡ true → (Source eto ≡ Source ete) ↔ (not (same_but_service own.frame f) ≡ true)
 eto_right own f right = (λ e. absurd (eto_is_not_ete e), λ e. absurd (false_is_not_true _ (ap not right) e))
 
 -- ---- by what is asked
 
 module _ (n : ℕ) (s : DriveState) (f : Frame) where
-  -- the drive behind what the frame does to every device, and the roles as the frame came
+  -- the drive after what the frame does to every device, and the roles as the frame came
   abbrev u : DriveState
   u = table.behind_effect f s
 
@@ -175,7 +175,7 @@ module _ (n : ℕ) (s : DriveState) (f : Frame) where
   identify_facts : (id : ℕ) → may_change_service (message_of f) ≡ true → Every (Fact (turn.Identify id) n s f) (table.answered (turn.Identify id) n r f u)
   identify_facts id changes = sent_fact (turn.Identify id) n s f false u start.Identity true id (moves_still u u refl) changes refl (λ sends. sends)
 
-  -- ---- behind an own frame
+  -- ---- after an own frame
 
   next_fact : (own : OwnFrame) (failed : Bool) (x : DriveState × Option ℕ) → may_change_service (message_of f) ≡ true
       → lacks_at (turn.Compare own) n r f u ≡ lacks_due u.mode n u → same_but_service own.frame f ≡ true → (own.stopped || own.last) ≡ false

@@ -1,4 +1,4 @@
--- What begins a transfer: the seek, DDL 2 and DDT 2 with status 0. And runs, one behind the other.
+-- What begins a transfer: the seek, DDL 2 and DDT 2 with status 0. And runs, one after the other.
 use Rattle.std.proofs.Common.{◌≡◌, ◌+◌, ◌*◌, ◌++◌, ℕ, List, [], ◌∷◌, true, refl, ap, subst, ◌∙◌}
 use Rattle.std.specs.Prelude.{None}
 use Rattle.il_ports.specs.Media.{MediumView}
@@ -49,7 +49,7 @@ step_hears m n s f listening h =
     ap (λ asked. table.answered asked n s.interface.roles f (table.behind_effect f s)) (hears m s f listening h)
     ∙ ap (λ m. then_by (table.passes s.interface.roles f) (table.heard_in m (byte_of f) n (table.behind_effect f s))) listening.mode
 
--- behind the high byte
+-- after the high byte
 abbrev half : DriveState → Frame → DriveState
 half s f = table.in_mode (mode.SeekLow (byte_of f)) (table.behind_effect f s)
 
@@ -82,7 +82,7 @@ module _ {M : Type 0} (view : M → MediumView) where
       subst (λ step. Does step (x.state, b) v.medium x.medium) (step_hears (mode.SeekLow (byte_of high)) (view v.medium).record_count (half s high) low (half_listening s high listening dh) dl) rest.1 in
       (ap (λ (v : DriveView M). v.state) rest.2 ∙ ap (λ x. x.0) second.0, ap (λ (v : DriveView M). v.medium) rest.2 ∙ second.1)
 
-  -- ---- runs one behind the other
+  -- ---- runs one after the other
 
   pub joins : (fs gs : List Frame) (outs more : List Out) (v u w : DriveView M) → Ran view v fs outs u → Ran view u gs more w → Ran view v (fs ++ gs) (outs ++ more) w
   joins [] gs [] more v u w first second = subst (λ x. Ran view x gs more w) first second

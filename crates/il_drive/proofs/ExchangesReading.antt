@@ -35,7 +35,7 @@ to_read p = unl ∷ rfc ∷ tad p ∷ rfc ∷ read_message ∷ rfc ∷ []
 abbrev pub passed : List Frame → List Out
 passed fs = map (λ (f : Frame). Pass f) fs
 
--- the frames are the echoes of these answers, one behind the other
+-- the frames are the echoes of these answers, one after the other
 abbrev pub EchoesOf : List Out → List Frame → Type 0
 EchoesOf [] fs = ⊥
 EchoesOf (out ∷ outs) fs = ComeBack out fs outs
@@ -79,7 +79,7 @@ module _ {M : Type 0} (view : M → MediumView) where
   first_byte : (t : Tape) (first : ℕ) (buffer : List ℕ) → buffer ≡ record_at t (first + 0) → 0 < length (record_at t (first + 0)) → sent_bytes t first 0 0 ≡ get_or buffer 0 0 ∷ []
   first_byte t first buffer is some = take_more (record_at t (first + 0)) 0 0 some ∙ ap (λ bytes. get_or bytes 0 0 ∷ []) (sym is)
 
-  -- what went out behind the first byte
+  -- what went out after the first byte
   went_is : (p first : ℕ) (fs : List Frame) (out : Out) (outs all : List Out) (v x w : DriveView M) → IsMedium (view v.medium) → HasSent view first 0 0 v.medium x → out ≡ sent (get_or x.state.buffer_0 0 0)
       → all ≡ passed (to_read p) ++ out ∷ outs → w.state.interface.roles ≡ talker p → WentOut view first 0 0 (get_or x.state.buffer_0 0 0) v.medium fs outs w → IsReadOut p first fs all v w ⊎ IsCutShort p first fs all v w
   went_is p first fs out outs all v x w medium has is all_are roles went =
@@ -131,7 +131,7 @@ module _ {M : Type 0} (view : M → MediumView) where
   refused_is p first (f ∷ fs) [] all v x w over all_are roles echoes ran = absurd echoes
   refused_is p first (f ∷ fs) (out ∷ outs) all v x w over all_are roles echoes ran = absurd echoes.0
 
-  -- SDA behind DDT 2, and then echoes
+  -- SDA after DDT 2, and then echoes
   reads_from : (p first : ℕ) (fs : List Frame) (outs all : List Out) (v u w : DriveView M) → IsMedium (view v.medium) → first < (view v.medium).record_count
       → stance_of u.state ≡ record (turned (talker p) (stance_of v.state)) { mode = mode.Read; pointer = 0 } → u.medium ≡ v.medium → v.state.position ≡ first → status_of v.state ≡ 0
       → all ≡ passed (to_read p) ++ outs → AllData fs → EchoesOf outs fs → Ran view u (sda ∷ fs) outs w → IsReadOut p first fs all v w ⊎ IsCutShort p first fs all v w
@@ -170,7 +170,7 @@ module _ {M : Type 0} (view : M → MediumView) where
     pub rests : IsAtRest p w.state
     pub medium : IsRead (view v.medium) (view w.medium)
 
-  -- the place behind 256 * k bytes
+  -- the place after 256 * k bytes
   whole_place : (whole last k : ℕ) → last < 256 → suc (256 * whole + last) ≡ 256 * k → (suc whole ≡ k) × (last ≡ 255)
   whole_place whole last k lt is = (omega (arith, lt, is), omega (arith, lt, is))
 
@@ -209,7 +209,7 @@ module _ {M : Type 0} (view : M → MediumView) where
     pub why : ((status_of w.state ≡ 1) × Rose (view v.medium).faults (view w.medium).faults)
         ⊎ ((k ≡ (view v.medium).record_count) × (status_of w.state ≡ 3) × ((view w.medium).faults ≡ (view v.medium).faults))
 
-  -- UNT behind the end of a transmission that ended by itself
+  -- UNT after the end of a transmission that ended by itself
   pub ends_short : (p first : ℕ) (fs : List Frame) (outs more : List Out) (v u w : DriveView M) → (short : IsCutShort p first fs outs v u) → Ran view u (unt ∷ rfc ∷ []) more w → HasNotRead p (first + short.whole) v w
   ends_short p first fs outs more v u w short ran =
       let ends = untalks view p more u w short.roles ran in

@@ -73,7 +73,7 @@ module _ {M : Type 0} (view : M → MediumView) where
         medium = told.medium ∙ went.1;
       }
 
-  -- ---- behind the end of a transmission
+  -- ---- after the end of a transmission
 
   abbrev pub ends_talking : List Message
   ends_talking = msg.Unt ∷ msg.Rfc ∷ []

@@ -182,7 +182,7 @@ pub listens-data : (fs : List Frame) → AllData fs → NoneListens fs
 listens-data [] all = tt
 listens-data (f ∷ fs) all = (data_listens (class_of f) (byte_of f) all.0, listens-data fs all.1)
 
--- the commands of a seek, of a write, and of a read behind its UNL
+-- the commands of a seek, of a write, and of a read after its UNL
 pub puts-seek : (p : ℕ) → p ≤ 30 → NonePuts (unl ∷ rfc ∷ lad p ∷ rfc ∷ seek_message ∷ rfc ∷ [])
 puts-seek p le = (refl, (refl, (ap may_put (message_of-lad p le), (refl, (refl, (refl, tt))))))
 
@@ -190,7 +190,7 @@ pub puts-write : (p : ℕ) → p ≤ 30 → NonePuts (unl ∷ rfc ∷ lad p ∷ 
 puts-write p le = (refl, (refl, (ap may_put (message_of-lad p le), (refl, (refl, (refl, tt))))))
 
 module _ {M : Type 0} (view : M → MediumView) where
-  -- the roles behind a frame are those of every device
+  -- the roles after a frame are those of every device
   pub roles-did : (n : ℕ) (s t : DriveState) (f : Frame) (out : Out) (m m₂ : M) → Did view (table.drive_step n s f) (t, out) m m₂ → t.interface.roles ≡ roles_after s.interface.roles (message_of f)
   roles-did n s t f out m m₂ did =
       let behind : Fact (turn_on s.interface f) n s f false (t, out) ⊎ (Fact (turn_on s.interface f) n s f true (t, out) × Rose (view m).faults (view m₂).faults) =

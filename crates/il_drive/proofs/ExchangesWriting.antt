@@ -240,7 +240,7 @@ module _ {M : Type 0} (view : M → MediumView) (r : Roles) (first : ℕ) (piece
       wrote.2)
       wrote.1.1
 
-  -- frames behind the last record do nothing where one could not be written
+  -- frames after the last record do nothing where one could not be written
   stays_torn : (p : ℕ) (rest : List Frame) (outs : List Out) (v w : DriveView M) → r ≡ listener p → AllData rest → HasTorn v → Ran view v rest outs w → HasTorn w
   stays_torn p rest outs v w listens all torn ran =
       let failed = torn.failed in
@@ -339,7 +339,7 @@ module _ {M : Type 0} (view : M → MediumView) where
       let went = goes_listening view p (msg.Ddl 2 ∷ msg.Rfc ∷ []) (write_message ∷ rfc ∷ []) outs v w le free.address (refl, (refl, tt)) refl ran in
       (went.0 ∙ ap (λ b. if b then record σ { mode = mode.Write; pointer = 0; filled = false } else record σ { mode = mode.Rest }) (eq-eqb (status_of v.state) 0 free.status), went.1)
 
-  -- behind the last record come bytes that do not fill the buffer
+  -- after the last record come bytes that do not fill the buffer
   put_is : (p first : ℕ) (pieces : List (List ℕ)) (m : M) (medium : IsMedium (view m)) (fits : first + length pieces ≤ (view m).record_count) (rest : List Frame) (outs : List Out) (v w : DriveView M)
       → AllData rest → length rest ≤ 255 → HasPut view (listener p) first pieces m medium fits (length pieces) v → Ran view v rest outs w
       → HasKept first pieces (view m) (view w.medium) × WroteAll p first pieces m w

@@ -60,7 +60,7 @@ abbrev pub AllMildFor : Start → List Frame → Type 0
 AllMildFor what [] = Unit {0}
 AllMildFor what (f ∷ fs) = (is_mild_for what (message_of f) ≡ true) × AllMildFor what fs
 
--- the status behind such frames: as it was, or told and then 0 where they may ask for it
+-- the status after such frames: as it was, or told and then 0 where they may ask for it
 abbrev pub StatusLeft : Start → ℕ → ℕ → Type 0
 StatusLeft start.Status old new = (new ≡ old) ⊎ (new ≡ 0)
 StatusLeft start.Identity old new = new ≡ old
@@ -78,7 +78,7 @@ left_then start.Status old mid new first (inr none) = inr none
 left_then start.Identity old mid new first more = more ∙ first
 left_then start.Data old mid new first more = more ∙ first
 
--- behind the right echo of what was asked for
+-- after the right echo of what was asked for
 left_told : (what : Start) (u s : DriveState) → status_of u ≡ status_of s → StatusLeft what (status_of s) (status_of (table.acknowledged what u))
 left_told start.Status u s same = inr refl
 left_told start.Identity u s same = same
@@ -351,8 +351,8 @@ ifc_ran view fs (out ∷ outs) v w all ran =
 
 -- ---- what a drive answers that is asked for its status alone
 
--- It passes a message on, and its status stays; or it tells its status; or it ends behind the right echo, and its
--- status is 0 then, or behind another.
+-- It passes a message on, and its status stays; or it tells its status; or it ends after the right echo, and its
+-- status is 0 then, or after another.
 abbrev pub Says : Message → DriveState → Out → DriveState → Type 0
 Says m s (Pass g) t = status_of t ≡ status_of s
 Says m s (Source g) t =

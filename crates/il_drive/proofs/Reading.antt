@@ -94,7 +94,7 @@ pub record HasEnded {M : Type 0} (view : M → MediumView) (k : ℕ) (m : M) (w 
 abbrev pub nrd : Frame
 nrd = framed class.Rdy 0x42
 
--- The transmission was ended by NRD, behind the right echo of the byte that was on the loop.
+-- The transmission was ended by NRD, after the right echo of the byte that was on the loop.
 pub record HasStopped {M : Type 0} (v : DriveView M) (outs : List Out) (w : DriveView M) : Type 0 where
   pub answers : outs ≡ Pass nrd ∷ Source eto ∷ []
   pub rests : w.state.mode ≡ mode.Rest
@@ -177,7 +177,7 @@ module _ {M : Type 0} (view : M → MediumView) where
         ap (λ x. x.1) is,
       )
 
-  -- SDA, behind DDT 2: the first record is read
+  -- SDA, after DDT 2: the first record is read
   pub opens : (v w : DriveView M) (out : Out) → v.state.interface.roles.talks ≡ true → v.state.interface.own ≡ None → v.state.mode ≡ mode.Read → status_of v.state ≡ 0 → v.state.pointer ≡ 0
       → v.state.position < (view v.medium).record_count
       → Did view (table.drive_step (view v.medium).record_count v.state sda) (w.state, out) v.medium w.medium → Opened view v.state.position 0 (Pass sda) v.medium w out
@@ -216,7 +216,7 @@ module _ {M : Type 0} (view : M → MediumView) where
         one.0 ∙ ap (λ p. sent (get_or s.buffer_0 p 0)) pointer ∙ ap (λ (w : DriveView M). sent (get_or w.state.buffer_0 (last + 1) 0)) (sym is),
       )
 
-  -- behind the last byte of a record the next one is read, where the tape has one
+  -- after the last byte of a record the next one is read, where the tape has one
   opens_next : (first whole : ℕ) (f : Frame) (out : Out) (m : M) (v w : DriveView M) → HasSent view first whole 255 m v → is_data f ≡ true → IsEcho (sent (get_or v.state.buffer_0 255 0)) f
       → suc (first + whole) ≤ (view v.medium).record_count
       → Did view (table.drive_step (view v.medium).record_count v.state f) (w.state, out) v.medium w.medium → Opened view first (suc whole) (Source eto) m w out
@@ -246,7 +246,7 @@ module _ {M : Type 0} (view : M → MediumView) where
 
   -- ---- any number of echoes
 
-  -- What went out behind these echoes, where the byte `start` was on the loop: bytes that lead from that place to another
+  -- What went out after these echoes, where the byte `start` was on the loop: bytes that lead from that place to another
   -- one, the last of which is on the loop; and then, where the transmission is over, ETO.
   pub record WentOut (first whole last start : ℕ) (m : M) (fs : List Frame) (outs : List Out) (w : DriveView M) : Type 0 where
     pub bytes : List ℕ
@@ -267,7 +267,7 @@ module _ {M : Type 0} (view : M → MediumView) where
     end = inl (subst (HasSent view first whole last m) (sym is) has, refl, refl, ap (λ (w : DriveView M). get_or w.state.buffer_0 last 0) is);
   }
 
-  -- a byte, and then what went out behind it
+  -- a byte, and then what went out after it
   byte_and : (first whole last next_whole next_last start byte : ℕ) (m : M) (f : Frame) (fs : List Frame) (out : Out) (outs : List Out) (w : DriveView M)
       → 256 * next_whole + next_last ≡ suc (256 * whole + last) → ((t : Tape) → (view m).tape ≡ Some t → sent_bytes t first next_whole next_last ≡ sent_bytes t first whole last ++ byte ∷ [])
       → out ≡ sent byte → WentOut first next_whole next_last byte m fs outs w → WentOut first whole last start m (f ∷ fs) (out ∷ outs) w

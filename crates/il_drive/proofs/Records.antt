@@ -1,4 +1,4 @@
--- Several records that are written in one transmission: each is put as its last byte comes, and behind one that the
+-- Several records that are written in one transmission: each is put as its last byte comes, and after one that the
 -- medium could not write no byte does anything.
 use Rattle.std.proofs.Common.{◌≡◌, ◌≤◌, ◌+◌, ◌++◌, ◌⊎◌, inl, inr, List, [], ◌∷◌, length, refl, sym, ap, subst, ◌∙◌, arith, ⊎_elim}
 use Rattle.std.proofs.lemmas.List.{length-map}
@@ -34,7 +34,7 @@ through_own : (fs : List Frame) (i : InterfaceState) → AllData fs → (through
 through_own [] i all = refl
 through_own (f ∷ fs) i all = through_own fs (interface_after i f) all.1 ∙ own_after-data i.roles i.own f all.0
 
--- behind a record that was put the next one is awaited
+-- after a record that was put the next one is awaited
 well_writing : (fs : List Frame) (s : DriveState) → IsWriting s → AllData fs → IsWriting (well fs s)
 well_writing fs s writing all = record {
   listens = ap (λ (r : Roles). r.listens) (through_roles fs s.interface all) ∙ writing.listens;
@@ -42,7 +42,7 @@ well_writing fs s writing all = record {
   mode = writing.mode;
 }
 
--- behind one that was not none is
+-- after one that was not none is
 badly_rests : (fs : List Frame) (s : DriveState) → IsWriting s → AllData fs → IsListening mode.Rest (badly fs s)
 badly_rests fs s writing all = record {
   listens = ap (λ (r : Roles). r.listens) (through_roles fs s.interface all) ∙ writing.listens;

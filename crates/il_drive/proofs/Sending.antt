@@ -43,7 +43,7 @@ step_reads n s talks silent in_mode empty on =
     ∙ ap (λ b. then_by (table.first_or_pass r sda) (if b then then_by table.first_of_record (table.loaded n u) else Now (table.byte_of_record u))) (eq-eqb s.pointer 0 empty)
     ∙ ap (λ b. then_by (table.first_or_pass r sda) (then_by table.first_of_record (if b then Now (table.faulty fault.NoRecord u, false) else Reads u.position (λ bytes. (record u { buffer_0 = bytes }, true)) (table.faulty fault.Unread u, false)))) (ne_eqb s.position n on)
 
--- ---- behind the right echo
+-- ---- after the right echo
 
 -- a frame that comes in the place of the own frame is compared with it
 compares : (s : DriveState) (f : Frame) (own : OwnFrame) → s.interface.own ≡ Some own → is_data f ≡ true → turn_on s.interface f ≡ turn.Compare own
@@ -63,7 +63,7 @@ step_sends n last s f reading h right =
     ∙ ap (λ m. then_by table.next_or_end (table.due_in m n u)) reading.mode
     ∙ ap (λ b. then_by table.next_or_end (if b then then_by table.first_of_record (table.loaded n u) else Now (table.byte_of_record u))) (ne_eqb s.pointer 0 (λ e. absurd (omega (arith, e, reading.pointer))))
 
--- behind the last byte of a record the next one is due
+-- after the last byte of a record the next one is due
 step_asks : (n byte : ℕ) (s : DriveState) (f : Frame) → s.interface.own ≡ Some (just_sent (framed class.Dab byte) false) → s.mode ≡ mode.Read → s.pointer ≡ 0 → is_data f ≡ true
     → same_but_service (framed class.Dab byte) f ≡ true
     → table.drive_step n s f ≡ then_by table.next_or_end (then_by table.first_of_record (table.loaded n (table.behind_effect f s)))
@@ -83,7 +83,7 @@ step_reads_on n byte s f is in_mode empty h right on =
     step_asks n byte s f is in_mode empty h right
     ∙ ap (λ b. then_by table.next_or_end (then_by table.first_of_record (if b then Now (table.faulty fault.NoRecord u, false) else Reads u.position (λ bytes. (record u { buffer_0 = bytes }, true)) (table.faulty fault.Unread u, false)))) (ne_eqb s.position n on)
 
--- behind the last record of the tape there is none: the transmission ends with status 3
+-- after the last record of the tape there is none: the transmission ends with status 3
 pub step_reads_past : (n byte : ℕ) (s : DriveState) (f : Frame) → s.interface.own ≡ Some (just_sent (framed class.Dab byte) false) → s.mode ≡ mode.Read → s.pointer ≡ 0 → is_data f ≡ true
     → same_but_service (framed class.Dab byte) f ≡ true → s.position ≡ n
     → table.drive_step n s f ≡ Now (table.ends eto (table.faulty fault.NoRecord (table.behind_effect f s)))
@@ -92,7 +92,7 @@ step_reads_past n byte s f is in_mode empty h right at_end =
     step_asks n byte s f is in_mode empty h right
     ∙ ap (λ b. then_by table.next_or_end (then_by table.first_of_record (if b then Now (table.faulty fault.NoRecord u, false) else Reads u.position (λ bytes. (record u { buffer_0 = bytes }, true)) (table.faulty fault.Unread u, false)))) (eq-eqb s.position n at_end)
 
--- Behind NRD no byte is asked for, and behind a last byte neither: the transmission ends, and a status that was sent is
+-- After NRD no byte is asked for, and after a last byte neither: the transmission ends, and a status that was sent is
 -- cleared.
 pub step_ends : (n : ℕ) (s : DriveState) (f : Frame) (own : OwnFrame) → s.interface.own ≡ Some own → is_data f ≡ true → same_but_service own.frame f ≡ true → (own.stopped || own.last) ≡ true
     → table.drive_step n s f ≡ Now (table.ends eto (table.acknowledged s.begun (table.behind_effect f s)))

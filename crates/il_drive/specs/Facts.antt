@@ -35,7 +35,7 @@ has_wrong_echo s f = is_wrong_echo (turn_on s.interface f) f
 
 -- ---- records that are put
 
--- In what follows s is the drive behind what the frame does to every device, and r the roles as the frame came.
+-- In what follows s is the drive after what the frame does to every device, and r the roles as the frame came.
 
 -- what buffer 0 holds as it is put, by a byte that is heard and by DDL 8
 abbrev pub full_by : Mode → ℕ → DriveState → Option (List ℕ)
@@ -67,7 +67,7 @@ placed_on false position (Some bytes) = Some (position, bytes)
 abbrev pub record_put : ℕ → DriveState → Frame → Option (ℕ × List ℕ)
 record_put n s f = placed_on (s.position == n) s.position (put_at (turn_on s.interface f) s.interface.roles f (behind_effect f s))
 
--- the tape behind the call: the record holds the bytes, or any where the write failed, and all else is as it was
+-- the tape after the call: the record holds the bytes, or any where the write failed, and all else is as it was
 abbrev pub IsTapeAfter : Option (ℕ × List ℕ) → Option Tape → Option Tape → Type 0
 IsTapeAfter None old new = new ≡ old
 IsTapeAfter (Some (k, bytes)) old new =
@@ -80,7 +80,7 @@ IsLeft (Some (k, bytes)) t c = Torn k t c
 
 -- ---- records that the tape does not have
 
--- the byte that is due is the first of the record behind the last
+-- the byte that is due is the first of the record after the last
 abbrev pub lacks_due : Mode → ℕ → DriveState → Bool
 lacks_due mode.Read n s = (s.pointer == 0) && (s.position == n)
 lacks_due _ n s = false

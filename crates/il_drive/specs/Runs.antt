@@ -33,7 +33,7 @@ pub record IsWriting (s : DriveState) : Type 0 where
   pub silent : s.interface.own ≡ None
   pub mode : s.mode ≡ mode.Write
 
--- the interface behind frames that it heard
+-- the interface after frames that it heard
 abbrev pub through : List Frame → InterfaceState → InterfaceState
 through [] i = i
 through (f ∷ fs) i = through fs (interface_after i f)

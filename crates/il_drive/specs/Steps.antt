@@ -20,7 +20,7 @@ then_by g (Now x) = Now (g x)
 then_by g (Reads k good bad) = Reads k (λ bytes. g (good bytes)) (g bad)
 then_by g (Writes k bytes good bad) = Writes k bytes (g good) (g bad)
 
--- In what follows contracts see the medium before the step as v, and behind it as w.
+-- In what follows contracts see the medium before the step as v, and after it as w.
 
 -- a read, with success or without, leaves all as it was
 pub record IsStill (v w : MediumView) : Type 0 where

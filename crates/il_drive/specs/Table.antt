@@ -175,7 +175,7 @@ heard_in _ byte n s = Now s
 
 -- ---- the byte that is due
 
--- behind the last byte of a buffer none is due
+-- after the last byte of a buffer none is due
 abbrev pub after_byte : DriveState → DriveState
 after_byte s = if nat_lt s.pointer 255 then advanced s else at_rest (advanced s)
 
@@ -223,7 +223,7 @@ abbrev pub first_or_pass : Roles → Frame → DriveState × Option ℕ → Driv
 first_or_pass r f (s, Some byte) = sends start.Data false byte s
 first_or_pass r f (s, None) = passes r f s
 
--- behind the right echo: the next byte that is due, or ETO
+-- after the right echo: the next byte that is due, or ETO
 abbrev pub next_or_end : DriveState × Option ℕ → DriveState × Out
 next_or_end (s, Some byte) = sends start.Data false byte s
 next_or_end (s, None) = ends eto s
@@ -240,7 +240,7 @@ acknowledged start.Status s = in_status 0 s
 acknowledged start.Data s = s
 acknowledged start.Identity s = s
 
--- Behind the right echo of a frame that is stopped or the last no byte is asked for.
+-- After the right echo of a frame that is stopped or the last no byte is asked for.
 abbrev pub went_on : Bool → ℕ → DriveState → Step (DriveState × Out)
 went_on true n s = Now (ends eto (acknowledged s.begun s))
 went_on false n s = then_by next_or_end (due n s)

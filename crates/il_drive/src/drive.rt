@@ -151,7 +151,7 @@ impl<M: Medium> Drive<M> {
             (M.view self.old.medium).left_since (M.view self.new.medium).left_since (IsLeft (record_put (M.view self.old.medium).record_count self.old.state frame) t) }
     {
         let out = self.step(frame);
-        // Behind a field the proof sees that the ranges hold.
+        // After a field the proof sees that the ranges hold.
         let _ = &self.interface;
         out
     }
@@ -527,7 +527,7 @@ impl<M: Medium> Drive<M> {
         self.due()
     }
 
-    // Behind the last byte of a buffer none is due.
+    // After the last byte of a buffer none is due.
     fn leave_byte(&mut self)
         ensures { self.new ≡ record self.old { state = table.after_byte self.old.state } }
     {
@@ -592,7 +592,7 @@ impl<M: Medium> Drive<M> {
         }
     }
 
-    // Data behind an own frame: the echo is right where the two are equal apart from the service
+    // Data after an own frame: the echo is right where the two are equal apart from the service
     // bit.
     #[inline(always)]
     fn compare(&mut self, own: OwnFrame, frame: Frame) -> Out
@@ -612,7 +612,7 @@ impl<M: Medium> Drive<M> {
         }
     }
 
-    // The transmission ends: by ETO behind the right echo, and else by ETE.
+    // The transmission ends: by ETO after the right echo, and else by ETE.
     fn end(&mut self, echoed: bool) -> Out
         ensures ends { (self.new.state, result) ≡ table.ends (if echoed then eto else ete) self.old.state }
         ensures medium { self.new.medium ≡ self.old.medium }

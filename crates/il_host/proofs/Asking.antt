@@ -20,7 +20,8 @@ use Rattle.host_model.proofs.NoCommands.{refusal, no_command, no_command_stops}
 use Rattle.il_host.specs.HostView.{HostView, IsHost, Performed}
 use Rattle.il_host.specs.Run.{Answers, event_of, item_asked}
 use Rattle.il_host.specs.declared.running.Asked.{Asked as Wanted}
-use Rattle.il_host.specs.Writing.{WritesAll, told_text}
+use Rattle.il_ports.specs.Writing.{WritesAll}
+use Rattle.il_host.specs.Writing.{told_text}
 use Rattle.il_host.proofs.Images.{images_kept}
 
 -- ---- readings

@@ -14,7 +14,7 @@ use Rattle.il_host.specs.Hosts.{IsClosed, Space, host_in, loop_in}
 
 -- ---- what is handed back of a second controller
 
--- lists that are the same with an element behind each
+-- lists that are the same with an element after each
 same_last : {X : Type 0} (xs ys : List X) (x y : X) → xs ++ x ∷ [] ≡ ys ++ y ∷ [] → (xs ≡ ys) × (x ≡ y)
 same_last [] [] x y same = (refl, ap (λ l. elim l [ [] ↦ x | z ∷ rest ↦ z ]) same)
 same_last [] (z ∷ ys) x y same = let count = ap length same ∙ length-append (z ∷ ys) (y ∷ []) in absurd (omega (arith, count))

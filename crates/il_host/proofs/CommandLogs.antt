@@ -22,7 +22,7 @@ use Rattle.host_model.specs.Steps.{Exchanged, HasReplyCause, IsCarried, OnTapes,
 use Rattle.host_model.proofs.RingStates.{ring_on}
 use Rattle.il_host.proofs.CommandTravels.{event_by, log_came}
 
--- no hop lies behind a count and not behind it
+-- no hop comes after a count and not after it
 pub met_none : (hops : List ℕ) (count : ℕ) → met hops count count ≡ []
 met_none hops count = empty (met hops count count) (length-met hops count count count (omega arith) (omega arith))
   where

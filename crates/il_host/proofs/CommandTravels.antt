@@ -17,7 +17,7 @@ use Rattle.host_model.proofs.RingStates.{host_led, travels_on, roles_on}
 use Rattle.host_model.proofs.Steps.{boxed_same}
 
 -- a command over the loop: the ring r as it began, with an empty log, became s; the loop was ready before it, or not, and is
--- behind it; and so the store was sound
+-- after it; and so the store was sound
 abbrev pub event_by : {M : Type 0} → (M → MediumView) → Item → Reply → (was is sound sound_now : Bool) → (r s : RingView M) → Event
 event_by view item reply was is sound sound_now r s =
     event item reply s.books.log (state_on view was sound r) (state_on view is sound_now s)
@@ -31,7 +31,7 @@ abbrev event_with : {M : Type 0} → (M → MediumView) → Item → Reply → (
 event_with view item reply was is log r s =
     event item reply log (state_on view was false r) (state_on view is false s)
 
--- behind an empty log the log is that of the exchanges
+-- after an empty log the log is that of the exchanges
 pub log_came : {M : Type 0} (view : M → MediumView) (whole : Bool) (r s : RingView M) → r.books.log ≡ [] → (came : CameBy view whole r s)
     → s.books.log ≡ all_entries came.pieces
 log_came view whole r s empty came = came.talked.adds.log ∙ ap (λ log. log ++ all_entries came.pieces) empty

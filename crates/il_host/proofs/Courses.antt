@@ -89,7 +89,7 @@ meets_id l a id = record { whole = whole; broken = broken }
     broken (Identify g) legal is = let clash = is.1 in cc
     broken _ legal is = cc
 
--- the ID of the device behind these
+-- the ID of the device after these
 at_front : (front : List DeviceState) (d : DeviceState) (ds : List DeviceState) → accessory_at (length front) (front ++ d ∷ ds) ≡ d.accessory
 at_front [] d ds = refl
 at_front (e ∷ front) d ds = at_front front d ds

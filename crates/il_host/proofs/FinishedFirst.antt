@@ -182,7 +182,7 @@ module _ {R S : Type 0} (view : R → RecordsView S) (m f n : VolumeView R) (law
           after = (next.after.0, next.after.1, subst (λ (x : Tape). SettlesAs x next.after.0) again next.after.2);
         }
 
-    -- ---- the tape behind the command
+    -- ---- the tape after the command
 
     pub clear_now : TurnsVolume command view f n → (c : Tape) → IsTold view n c → (has_mark count (volume_of c) ≡ false) × (finished_volume_of c ≡ volume_of c)
     clear_now turns c now =

@@ -15,7 +15,8 @@ use Rattle.host_model.specs.Requests.{item_of, lone_items}
 use Rattle.host_model.specs.Generated.{draw, drawn, stores, rising, store_line, purge_line, fetch_line, chosen_line, more_lines, generated_lines, items_generated}
 use Rattle.host_model.specs.Steps.{Event}
 use Rattle.host_model.specs.Runs.{Summary, Tally, with_reply, tally_of, replies, items_asked, all_ok, event_texts, summary, tally_text, output}
-use Rattle.host_model.specs.Leaves.{AsksGenerated, IsOkAs, WritesAs, WritesFront}
+use Rattle.il_ports.specs.Writing.{WritesFront}
+use Rattle.host_model.specs.Leaves.{AsksGenerated, IsOkAs, WritesAs}
 use Rattle.host_model.proofs.Generated.{first_is_item, chosen_is_item, items_generated-length}
 use Rattle.host_model.proofs.Growing.{tally_more}
 use Rattle.il_host.specs.HostView.{HostView, IsHost}
@@ -42,7 +43,7 @@ rising_text text page first count is =
 
 -- ---- pages
 
--- one text behind the other
+-- one text after the other
 pub put_then : (p q r : Sheet) (a b : List ℕ) → q ≡ record p { text = p.text ++ a } → r ≡ record q { text = q.text ++ b } → r ≡ record p { text = p.text ++ (a ++ b) }
 put_then p q r a b first second = second ∙ ap (λ (s : Sheet). record s { text = s.text ++ b }) first ∙ ap (λ l. record p { text = l }) (append_assoc p.text a b)
 

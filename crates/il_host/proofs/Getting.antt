@@ -34,7 +34,7 @@ Lines = Option (List (List ℕ))
 
 -- ---- replies
 
--- the reply behind that of the fetch
+-- the reply after that of the fetch
 abbrev got : Reply → Lines → Reply
 got reply.Ok lines = if_text lines
 got r lines = r

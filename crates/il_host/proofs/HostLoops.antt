@@ -112,7 +112,7 @@ pub left_lent_as : {M I T : Type 0} {D : I → Type 0} (view : M → MediumView)
     → LeavesStore 1 ((store_in view seen lends).failed None) (store_in view seen lends) (store_in view seen new) answer → LeavesStore 1 ((store_in view seen records).failed None) (store_in view seen records) (store_in view seen new) answer
 left_lent_as {M} {I} {T} {D} view seen lends records new answer same leaves = subst (λ (l : LoopRecords M I D). LeavesStore 1 ((store_in view seen l).failed None) (store_in view seen l) (store_in view seen new) answer) same leaves
 
--- ---- a host over a volume that was o before, and b behind the emptying of its log
+-- ---- a host over a volume that was o before, and b after the emptying of its log
 
 module _ {M I : Type 0} {D : I → Type 0} (view : M → MediumView) (seen : Ring M I D → RingView M) (o b : Volume (LoopRecords M I D)) (text_space : ℕ) (space : Space)
     (usable : IsUsable view (store_in view seen) (volume_in o) (loop_in seen o.records) text_space space) (began : Begun (store_in view seen o.records) (store_in view seen b.records))

@@ -78,7 +78,7 @@ use Rattle.il_frames.specs.declared.entry.Entry.{Entry}
 room_of : {M S : Type 0} (view : M → MediumView) (seen : S → RingView M) (p : S) (l : LoopView M) → IsHostRing view l.ring → (view_of view seen p l).room ≡ calls_in (log_room (view_of view seen p l).record_count)
 room_of view seen p l own = ap calls_in own
 
--- how many calls are left behind a log
+-- how many calls are left after a log
 left_of : {M S : Type 0} (view : M → MediumView) (seen : S → RingView M) (p : S) (l : LoopView M) → IsHostRing view l.ring → (view_of view seen p l).calls_left ≡ calls_behind (view_of view seen p l).record_count (l.ring.books.log)
 left_of view seen p l own = ap (λ room. calls_in (room - length l.ring.books.log)) own
 
@@ -169,12 +169,12 @@ on_volume P command.Adopt bytes changes has = (Adopt, refl, tt, λ answer. tt, h
 on_volume P command.Upgrade bytes changes has = (Upgrade, refl, tt, λ answer. tt, has)
 on_volume _ _ bytes changes has = absurd changes
 
--- ---- the page and the volume behind the last line
+-- ---- the page and the volume after the last line
 
 pub page_kept : {X : Type 0} (page : Sheet) (room : X) → KeepsPage page room page room
 page_kept page room = record { page = refl; room = refl }
 
--- the last line ended the text, behind these lines on a page that was blank
+-- the last line ended the text, after these lines on a page that was blank
 ends_at : {M I : Type 0} {D : I → Type 0} (view : M → MediumView) (seen : Ring M I D → RingView M) (item : Item) (answered told : Reply) (v : HostView) (n m : Volume (LoopRecords M I D)) (first page last : Sheet) (f g h : Space) (lines : List ℕ)
     → page ≡ record first { text = lines } → g ≡ f → Ends answered n page g told m last h
     → Performed item answered v (host_in view seen n (lines ++ reply_line answered) first.room f) → Performed item told v (host_in view seen m last.text last.room h)
@@ -199,7 +199,7 @@ module _ {M I : Type 0} {D : I → Type 0} {view : M → MediumView} {seen : Rin
       ends_at view seen item answered told v n m first page last f g h lines
       (put ∙ ap (λ (p : Sheet). record p { text = p.text ++ lines }) keeps.page ∙ ap (λ text. record first { text = text ++ lines }) blank) keeps.room ends did
 
--- ---- a host over a volume that was o before, b behind the emptying of its log and n in the end
+-- ---- a host over a volume that was o before, b after the emptying of its log and n in the end
 
 module _ {M I : Type 0} {D : I → Type 0} (view : M → MediumView) (seen : Ring M I D → RingView M) (o b n : Volume (LoopRecords M I D)) (text_space : ℕ) (space : Space)
     (usable : IsUsable view (store_in view seen) (volume_in o) (loop_in seen o.records) text_space space) (began : Begun (store_in view seen o.records) (store_in view seen b.records)) where

@@ -18,9 +18,9 @@ use Rattle.il_record.specs.Came.{CameUnits}
 use Rattle.il_record.proofs.Talks.{talked_then, same_loop}
 use Rattle.host_model.specs.Courses.{Due, begins_with, keeps_to, is_commanding, is_numbering}
 
--- ---- one part behind the other
+-- ---- one part after the other
 
--- what is due first was done whole, and then what is due behind it
+-- what is due first was done whole, and then what is due after it
 pub keeps_front : (front course : List Due) (ps qs : List Piece) → keeps_to front ps ≡ true → are_whole ps ≡ true → keeps_to course qs ≡ true → keeps_to (front ++ course) (ps ++ qs) ≡ true
 keeps_front [] course [] qs first whole more = more
 keeps_front (test ∷ front) course (Whole x ∷ ps) qs first whole more =
@@ -53,7 +53,7 @@ Meets l (ask ∷ asks) (due ∷ dues) = MeetsOne l ask due × Meets l asks dues
 Meets l [] (due ∷ dues) = ⊥
 Meets l (ask ∷ asks) [] = ⊥
 
--- one list behind the other
+-- one list after the other
 pub meets_then : (l : Loop) (asks more : List Ask) (dues course : List Due) → Meets l asks dues → Meets l more course → Meets l (asks ++ more) (dues ++ course)
 meets_then l [] more [] course first rest = rest
 meets_then l (ask ∷ asks) more (due ∷ dues) course first rest = (first.0, meets_then l asks more dues course first.1 rest)
@@ -121,7 +121,7 @@ module _ {M : Type 0} (view : M → MediumView) where
     keeps = asked_keeps (loop_of r) asks dues came.units.came.pieces whole came.units.came.talked.legal came.asked meets;
   }
 
-  -- one call behind the other, from a ring on which no frame is held
+  -- one call after the other, from a ring on which no frame is held
   abbrev pub came_behind : (whole : Bool) (us ws : List RecordUnit) (r m s : RingView M) → IsFree r → CameUnits view true us r m → CameUnits view whole ws m s → CameUnits view whole (us ++ ws) r s
   came_behind whole us ws r m s free first more =
       let ps = first.came.pieces in
@@ -143,7 +143,7 @@ module _ {M : Type 0} (view : M → MediumView) where
         are = both ∙ ap₂ (λ us ws. us ++ ws) first.are (behind ∙ more.are);
       }
 
-  -- one stage behind the other
+  -- one stage after the other
   pub keeps_then : (whole : Bool) (front course : List Due) (r m s : RingView M) → IsFree r → Keeps view true front r m → Keeps view whole course m s → Keeps view whole (front ++ course) r s
   keeps_then whole front course r m s free first more = record {
     came = came_behind whole [] [] r m s free first.came more.came;
@@ -166,7 +166,7 @@ keeps_begins (test ∷ dues) (Whole x ∷ ps) keeps =
 keeps_begins (test ∷ dues) (Cut x n b ∷ []) keeps = keeps
 keeps_begins (test ∷ dues) (Cut x n b ∷ p ∷ ps) keeps = cc
 
--- and so they are with others behind them, where they are whole
+-- and so they are with others after them, where they are whole
 pub begins_front : (dues : List Due) (ps qs : List Piece) → keeps_to dues ps ≡ true → are_whole ps ≡ true → begins_with dues (ps ++ qs) ≡ true
 begins_front [] ps qs keeps whole = refl
 begins_front (test ∷ dues) [] qs keeps whole = cc

@@ -81,7 +81,7 @@ ok_kept : {T : Type 0} (x : T) (command : VolumeCommand) (was now : Bool) → no
 ok_kept x Dir was now is = is
 ok_kept x _ was now is = is
 
--- behind ok it is kept
+-- after ok it is kept
 pub ok_is_kept : (command : VolumeCommand) (was : Bool) (r : Reply) (now : Bool) → IsKeptBehind command was r now → r ≡ reply.Ok → now ≡ true
 ok_is_kept command was r now is ok = by command (subst (λ q. IsKeptBehind command was q now) ok is)
   where
@@ -122,7 +122,7 @@ kept_as command was (Ok x) now is = ok_kept x command was now is
 kept_as {T} command was (Err (Refused why)) now is = refused_kept T command was why now is
 kept_as {T} command was (Err (Troubled e)) now is = subst (IsKeptBehind command was (fault_of e)) (sym (is ∙ fault_forgets T e command was)) (forgets_it command was e)
 
--- a directory that was kept, or not, behind one that is kept too wherever the first was
+-- a directory that was kept, or not, after one that is kept too wherever the first was
 pub kept_longer : (command : VolumeCommand) (was mid : Bool) (r : Reply) (now : Bool) → (was ≡ true → mid ≡ true) → IsKeptBehind command mid r now → IsKeptBehind command was r now
 kept_longer (Format label slots) was mid (reply.No c) now more is = by c is
   where

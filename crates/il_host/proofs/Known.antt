@@ -1,6 +1,6 @@
 -- Known bytes that grow, and writes that may have stopped in between.
-use Rattle.std.proofs.Common.{◌≡◌, ◌≤◌, ◌<◌, ℕ, ◌+◌, ◌-◌, List, [], ◌∷◌, ◌++◌, Option, Some, None, length, take, drop, get_or, sym, ap, subst, ◌∙◌, arith, append_assoc, append-nil, length-append, length-drop}
-use Rattle.std.proofs.Math.Seq.{take-add, take-length, take-append-add}
+use Rattle.std.proofs.Common.{◌≡◌, ◌<◌, ℕ, ◌+◌, List, [], ◌∷◌, ◌++◌, Option, Some, None, length, take, drop, get_or, sym, ap, subst, ◌∙◌, arith, append_assoc, append-nil, length-append}
+use Rattle.std.proofs.Math.Seq.{take-append-add}
 use Rattle.std.proofs.lemmas.List.{take-append-le, take-append-drop, take_more}
 use Rattle.std.proofs.lemmas.Grind.{flat_map-append}
 use Rattle.std.specs.Prelude.{Result, Ok, Err, IsErr}
@@ -9,48 +9,36 @@ use Rattle.il_frames.specs.declared.entry.Entry.{Entry}
 use Rattle.il_frames.specs.Entries.{entry_text}
 use Rattle.il_script.specs.Replies.{text_line}
 use Rattle.host_model.specs.Replies.{trace_text}
-use Rattle.il_host.specs.Writing.{WritesAll, Waits}
-
-pub appends-trans : (a b c : Option (List ℕ)) (xs ys : List ℕ) → Appends a b xs → Appends b c ys → Appends a c (xs ++ ys)
-appends-trans None b c xs ys h k = tt
-appends-trans (Some a) None c xs ys h k = absurd h
-appends-trans (Some a) (Some b) None xs ys h k = absurd k
-appends-trans (Some a) (Some b) (Some c) xs ys h k = k ∙ ap (λ l. l ++ ys) h ∙ append_assoc a xs ys
+use Rattle.il_ports.specs.Writing.{WritesFront, WritesAll}
+use Rattle.il_ports.proofs.Writing.{appends-trans}
+use Rattle.il_host.specs.Writing.{Waits}
 
 pub appends-none : (a : Option (List ℕ)) → Appends a a []
 appends-none None = tt
 appends-none (Some a) = sym (append-nil a)
 
-pub take-piece : (bytes : List ℕ) (from n : ℕ) → take (from + n) bytes ≡ take from bytes ++ take n (take (length bytes - from) (drop from bytes))
-take-piece bytes from n =
-    take-add from n bytes ∙ ap (λ l. take from bytes ++ take n l) (sym (ap (λ k. take k (drop from bytes)) (sym (length-drop from bytes)) ∙ take-length (drop from bytes)))
-
--- a write that stopped somewhere in a text
-abbrev pub Stopped : Option (List ℕ) → Option (List ℕ) → List ℕ → Type 0
-Stopped a b text = (n : ℕ) × (n ≤ length text) × Appends a b (take n text)
-
 -- an error is answered
-pub stopped_as : {E : Type 0} (a b : Option (List ℕ)) (text : List ℕ) (answer : Result (Unit {0}) E) → IsErr answer → Stopped a b text → WritesAll a b text answer
+pub stopped_as : {E : Type 0} (a b : Option (List ℕ)) (text : List ℕ) (answer : Result (Unit {0}) E) → IsErr answer → WritesFront a b text → WritesAll a b text answer
 stopped_as a b text (Ok u) err h = cc
 stopped_as a b text (Err e) err h = h
 
 -- it stopped within the first part of a text
-pub stopped_within : (a b : Option (List ℕ)) (text xs ys : List ℕ) → text ≡ xs ++ ys → Stopped a b xs → Stopped a b text
+pub stopped_within : (a b : Option (List ℕ)) (text xs ys : List ℕ) → text ≡ xs ++ ys → WritesFront a b xs → WritesFront a b text
 stopped_within a b text xs ys is h = (
   h.0,
   omega (arith, h.1, ap length is, length-append xs ys),
   subst (λ l. Appends a b l) (sym (ap (take h.0) is ∙ take-append-le h.0 xs ys h.1)) h.2,
 )
 
--- it stopped behind the first part
-pub stopped_behind : (a b c : Option (List ℕ)) (text xs ys : List ℕ) → text ≡ xs ++ ys → Appends a b xs → Stopped b c ys → Stopped a c text
+-- it stopped after the first part
+pub stopped_behind : (a b c : Option (List ℕ)) (text xs ys : List ℕ) → text ≡ xs ++ ys → Appends a b xs → WritesFront b c ys → WritesFront a c text
 stopped_behind a b c text xs ys is h k = (
   length xs + k.0,
   omega (arith, k.1, ap length is, length-append xs ys),
   subst (λ l. Appends a c l) (sym (ap (take (length xs + k.0)) is ∙ take-append-add xs ys k.0)) (appends-trans a b c xs (take k.0 ys) h k.2),
 )
 
--- a write behind the first part of a text
+-- a write after the first part of a text
 pub written_on : {E : Type 0} (a b c : Option (List ℕ)) (text xs ys : List ℕ) (r : Result (Unit {0}) E) → text ≡ xs ++ ys → Appends a b xs → WritesAll b c ys r → WritesAll a c text r
 written_on a b c text xs ys (Ok u) is h k = subst (λ l. Appends a c l) (sym is) (appends-trans a b c xs ys h k)
 written_on a b c text xs ys (Err e) is h k = stopped_behind a b c text xs ys is h k
@@ -71,7 +59,7 @@ waits_more a b text xs ys h = record {
   whole = ap (λ l. l ++ ys) h.whole ∙ append_assoc h.written xs ys;
 }
 
-pub waits_stopped : (a b c : Option (List ℕ)) (text xs : List ℕ) → Waits a b text xs → Stopped b c xs → Stopped a c text
+pub waits_stopped : (a b c : Option (List ℕ)) (text xs : List ℕ) → Waits a b text xs → WritesFront b c xs → WritesFront a c text
 waits_stopped a b c text xs h k = stopped_behind a b c text h.written xs h.whole h.appended k
 
 pub waits_written : {E : Type 0} (a b c : Option (List ℕ)) (text xs : List ℕ) (r : Result (Unit {0}) E) → Waits a b text xs → WritesAll b c xs r → WritesAll a c text r

@@ -20,18 +20,18 @@ use Rattle.loop_model.proofs.ReachLaws.{met-split}
 use Rattle.il_ring.specs.Fates.{IsByPlan}
 use Rattle.il_guest.specs.State.{GuestState}
 use Rattle.il_ring.specs.Guests.{GuestMind, guest_mind, last_asked}
-use Rattle.il_ring.specs.Lends.{is_lend, lend_entries, tells_own}
+use Rattle.il_ring.specs.Lends.{is_lend, lend_entries, reports_own}
 use Rattle.il_ring.specs.Outcomes.{HearsNothing, met_between}
 use Rattle.il_ring.specs.Plans.{hops_of}
 use Rattle.il_ring.specs.Rings.{RingView, IsRing, devices_of, drive_party, roles_of}
-use Rattle.il_ring.specs.Statuses.{ToldStatus, answers_always, told_by}
+use Rattle.il_ring.specs.Statuses.{ReportsStatus, answers_always, reported_by}
 use Rattle.il_ring.proofs.Faults.{risen_by_later}
-use Rattle.il_ring.proofs.HostFronts.{is_from_host, told_by_behind_host}
+use Rattle.il_ring.proofs.HostFronts.{is_from_host, told_by_after_host}
 use Rattle.il_ring.proofs.LendLaws.{lend_returned}
 use Rattle.il_control.specs.Calls.{IsIdle}
 use Rattle.il_control.specs.Lent.{LendBroken, LendMade, Lends, asked_on, controller_at, last_at, last_of}
 use Rattle.il_control.proofs.Calls.{hears_then}
-use Rattle.il_control.proofs.LentMet.{met_since, risen_up}
+use Rattle.il_control.proofs.LentReached.{met_since, risen_up}
 use Rattle.il_record.specs.Came.{CameBy}
 use Rattle.il_record.specs.Runs.{Interrupted, address_asks}
 use Rattle.il_record.specs.Talks.{all_entries}
@@ -75,7 +75,7 @@ and_false false = refl
 
 -- ---- the addressing before it
 
--- the log of a loop that was ready or not, behind `ready`
+-- the log of a loop that was ready or not, after `ready`
 pub record FrontSo {M : Type 0} (was whole : Bool) (r m : RingView M) : Type 0 where
   pub front : List Entry
   pub reading : Reading (ring_of (loop_on r)) front
@@ -173,7 +173,7 @@ last_numbered k (d ∷ e ∷ ds) numbered some =
     let same : k + length (d ∷ e ∷ ds) - 1 ≡ suc k + length (e ∷ ds) - 1 = omega arith in
     ap (λ a. last_at a (d ∷ e ∷ ds)) same ∙ last_numbered (suc k) (e ∷ ds) rest (omega arith)
 
--- numbered devices behind others are numbered on
+-- numbered devices after others are numbered on
 numbered_behind : (k : ℕ) (ds es : List DeviceState) → are_numbered k (map (λ d. d.roles) (ds ++ es)) ≡ true → are_numbered (k + length ds) (map (λ d. d.roles) es) ≡ true
 numbered_behind k [] es numbered = let same : k + 0 ≡ k = omega arith in ap (λ j. are_numbered j (map (λ d. d.roles) es)) same ∙ numbered
 numbered_behind k (d ∷ ds) es numbered =
@@ -206,7 +206,7 @@ guest_there None = refl
 guest_there (Some mind) = refl
 
 -- the status is told, or as it was
-told_or_not : (before : ℕ) (told : List ℕ) (now : ℕ) → ToldStatus before told now → MayBeTold before now
+told_or_not : (before : ℕ) (told : List ℕ) (now : ℕ) → ReportsStatus before told now → MayBeTold before now
 told_or_not before [] now so = inr so
 told_or_not before (byte ∷ more) now so = inl so.2
 
@@ -265,7 +265,7 @@ module _ {M : Type 0} (view : M → MediumView) (frames : ℕ) (was sound : Bool
       let there : controller_at (length (devices_of m)) m ≡ is_some z.guest = stands_last m idle last ∙ guest_there m.guest ∙ ap is_some guest_is in
       record {
         is = ap (λ k. is_lend k (addresses_asked z) frames lends.lend) (sym count_is) ∙ ap (λ asked. is_lend (length (devices_of m)) asked frames lends.lend) (sym asked_is) ∙ lends.is;
-        own = ap (λ asked. tells_own asked lends.lend) (sym asked_is) ∙ lends.own;
+        own = ap (λ asked. reports_own asked lends.lend) (sym asked_is) ∙ lends.own;
         address = lends.address ∙ count_is;
         whole = lends.whole_is ∙ ends;
         taken = λ taken. sym there ∙ lends.taker taken;
@@ -306,7 +306,7 @@ module _ {M : Type 0} (view : M → MediumView) (frames : ℕ) (was sound : Bool
 
     -- all but whether a hop was met, and the drive's status
     lent_log : (is_frame_fault answer ≡ true → met_between r s ≢ []) → (z.guest ≡ None → is_frame_fault answer ≡ false → met_between r s ≡ [])
-        → (is_frame_fault answer ≡ false → ToldStatus z.status (told_by (device_count z) (drive_at z) s.books.log) (status_of s.drive.state)) → Lent (r.books.plan) frames lent_event
+        → (is_frame_fault answer ≡ false → ReportsStatus z.status (reported_by (device_count z) (drive_at z) s.books.log) (status_of s.drive.state)) → Lent (r.books.plan) frames lent_event
     lent_log cause untaken told = record {
       front = front.front;
       reading = front.reading;
@@ -373,8 +373,8 @@ module _ {M : Type 0} (view : M → MediumView) (frames : ℕ) (was sound : Bool
   event_of is answer = event_by view (Asks (Lend frames)) answer was is sound false r s
 
   -- the drive told its status so, in the words of the whole log
-  told_so : (es : List Entry) → s.books.log ≡ (front_ready view r empty was m ready).front ++ es → ToldStatus (status_of m.drive.state) (told_by (length (devices_of m)) (drive_party m) es) (status_of s.drive.state)
-      → ToldStatus (status_of r.drive.state) (told_by (device_count (loop_on r)) (drive_at (loop_on r)) s.books.log) (status_of s.drive.state)
+  told_so : (es : List Entry) → s.books.log ≡ (front_ready view r empty was m ready).front ++ es → ReportsStatus (status_of m.drive.state) (reported_by (length (devices_of m)) (drive_party m) es) (status_of s.drive.state)
+      → ReportsStatus (status_of r.drive.state) (reported_by (device_count (loop_on r)) (drive_at (loop_on r)) s.books.log) (status_of s.drive.state)
   told_so es logged so =
       let front = front_ready view r empty was m ready in
       let hosts = ap (list_all is_from_host) front.reading.entries ∙ addressed_first_alone (loop_on r) was front.reading.pieces front.addressed in
@@ -382,12 +382,12 @@ module _ {M : Type 0} (view : M → MediumView) (frames : ℕ) (was sound : Bool
       let party : drive_party m ≡ drive_at (loop_on r) = ap (λ n. n + 1) went.before in
       let many : length (devices_of m) ≡ device_count (loop_on r) = went.size ∙ sym (count_on r) in
       let other : (0 == drive_at (loop_on r)) ≡ false = ne_eqb 0 (drive_at (loop_on r)) (λ none. omega (arith, none)) in
-      let same : told_by (length (devices_of m)) (drive_party m) es ≡ told_by (device_count (loop_on r)) (drive_at (loop_on r)) s.books.log =
-      ap (λ k. told_by k (drive_party m) es) many ∙ ap (λ q. told_by (device_count (loop_on r)) q es) party
-      ∙ sym (told_by_behind_host (device_count (loop_on r)) (drive_at (loop_on r)) front.front es hosts other)
-      ∙ ap (told_by (device_count (loop_on r)) (drive_at (loop_on r))) (sym logged) in
-      subst (λ before. ToldStatus before (told_by (device_count (loop_on r)) (drive_at (loop_on r)) s.books.log) (status_of s.drive.state)) (ready_leaves view was r m ready).status
-      (subst (λ told. ToldStatus (status_of m.drive.state) told (status_of s.drive.state)) same so)
+      let same : reported_by (length (devices_of m)) (drive_party m) es ≡ reported_by (device_count (loop_on r)) (drive_at (loop_on r)) s.books.log =
+      ap (λ k. reported_by k (drive_party m) es) many ∙ ap (λ q. reported_by (device_count (loop_on r)) q es) party
+      ∙ sym (told_by_after_host (device_count (loop_on r)) (drive_at (loop_on r)) front.front es hosts other)
+      ∙ ap (reported_by (device_count (loop_on r)) (drive_at (loop_on r))) (sym logged) in
+      subst (λ before. ReportsStatus before (reported_by (device_count (loop_on r)) (drive_at (loop_on r)) s.books.log) (status_of s.drive.state)) (ready_leaves view was r m ready).status
+      (subst (λ told. ReportsStatus (status_of m.drive.state) told (status_of s.drive.state)) same so)
 
   -- the reply is that of the command
   taker_is : (taken : Bool) → taken ≡ controller_at (length (devices_of m)) m → is_some (last_asked r.guest) ≡ taken

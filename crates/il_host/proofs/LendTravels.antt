@@ -21,7 +21,7 @@ use Rattle.loop_model.proofs.LeadingLaws.{OneTalkerLed-no_lend, are_commands_led
 use Rattle.loop_model.proofs.ReachLaws.{links_so_far-append, passes_so_far-append}
 use Rattle.loop_model.specs.Roles.{is_at_most_one, talkers}
 use Rattle.il_ring.specs.Guests.{last_asked}
-use Rattle.il_ring.specs.LedAdds.{AllTookSince}
+use Rattle.il_ring.specs.ControlledAdds.{AllTookSince}
 use Rattle.il_ring.specs.Lends.{lend_entries}
 use Rattle.il_ring.specs.Rings.{RingView, devices_of, drive_party, roles_of}
 use Rattle.il_ring.specs.Rounded.{AllTook}

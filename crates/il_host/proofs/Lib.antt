@@ -62,3 +62,5 @@ pub mod Getting
 pub mod TextPerforms
 pub mod TextLines
 pub mod Drives
+mod KeptShown
+mod Jobs

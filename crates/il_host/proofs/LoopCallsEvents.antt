@@ -60,7 +60,7 @@ module _ {M : Type 0} (view : M → MediumView) (was : Bool) (r m : RingView M) 
   pub ready_frame : polled_along 1 (devices_of m) idy ≡ poll_frame (loop_on r)
   ready_frame = ready_polled view was r m ready ∙ poll_on r
 
--- ---- what a command makes behind `ready`
+-- ---- what a command makes after `ready`
 
 module _ {M : Type 0} (view : M → MediumView) (was : Bool) (r m s : RingView M) (ready : Readies view was r m) where
   -- each device is asked for its accessory ID, whole or broken off

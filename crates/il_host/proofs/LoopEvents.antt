@@ -24,7 +24,7 @@ use Rattle.il_host.proofs.Keeping.{Keeps, Meets, MeetsOne, keeps_asked, keeps_br
 
 -- ---- the loop is ready
 
--- the ring m behind `ready`: as it was, where the loop was ready; else all devices were addressed
+-- the ring m after `ready`: as it was, where the loop was ready; else all devices were addressed
 abbrev pub Readies : {M : Type 0} → (M → MediumView) → Bool → RingView M → RingView M → Type 0
 Readies view true r m = (m ≡ r) × IsIdle r
 Readies view false r m = IsFree r × Readied view r m
@@ -88,7 +88,7 @@ module _ {M : Type 0} (view : M → MediumView) (item : Item) (of_loop : IsOfLoo
       exchanged_came view item reply.Ok was is false false true r s empty kept.came.came refl
       (record { course = course_kept r was (course_of item (loop_on r)) course kept.came.came.pieces due kept.keeps; begins = λ of. absurd (not_of_volume item of_loop of); cause = (kept.came.came.talked.met, count, good); carried = carries_none item reply.Ok _ _ _ of_loop })
 
-  -- it was refused behind whole exchanges
+  -- it was refused after whole exchanges
   pub loop_refused : (code : Code) → Keeps view true (addressed_first (loop_on r) was course) r s → (view s.drive.medium).faults ≡ (view r.drive.medium).faults
       → Exchanged (r.books.plan) (event_on view item (reply.No code) was is r s)
   loop_refused code kept count =

@@ -40,7 +40,7 @@ Still party d e = IsStill d e
 abbrev pub Deaf : ℕ → DeviceState → DeviceState → Type 0
 Deaf party d e = HearsNothing d e
 
--- behind nothing
+-- after nothing
 pub hears_all : (bytes : List ℕ) (d e f : DeviceState) → HearsNothing d e → HearsAll bytes e f → HearsAll bytes d f
 hears_all bytes d e f first more = record {
   heard = more.heard ∙ ap₂ (λ room heard. kept_all room heard bytes) first.room first.heard;
@@ -49,7 +49,7 @@ hears_all bytes d e f first more = record {
   accessory = more.accessory ∙ first.accessory;
 }
 
--- some of the bytes behind nothing
+-- some of the bytes after nothing
 pub hears_part : (whole : ℕ) (bytes : List ℕ) (d e f : DeviceState) → HearsNothing d e → HearsInPart whole bytes e f → HearsInPart whole bytes d f
 hears_part whole bytes d e f first more = record { more = more.more; few = more.few; heard = hears_all (take whole bytes ++ more.more) d e f first more.heard }
 
@@ -62,7 +62,7 @@ pub either : {A B : Type 0} (b : Bool) → A → B → MatchBool b A B
 either true x y = x
 either false x y = y
 
--- ---- one device behind a command
+-- ---- one device after a command
 
 -- Where nothing was heard, every command of the loop that ended by a fault of the frames leaves it so.
 pub fault_behind : (item : Item) (z : LoopState) (party : ℕ) (d e : DeviceState) → IsOfLoop item → IsStill d e → DeviceBehind item reply.FaultFrame z party d e
@@ -110,7 +110,7 @@ module _ {M : Type 0} where
 -- ---- the status
 
 module _ {M : Type 0} (view : M → MediumView) (was : Bool) (r m s : RingView M) (ready : Readies view was r m) where
-  -- the devices behind both
+  -- the devices after both
   behind : (S T : ℕ → DeviceState → DeviceState → Type 0) → ((party : ℕ) (d e f : DeviceState) → IsStill d e → S party e f → T party d f) → BoxedBecome S (loop_on m) (loop_on s) → BoxedBecome T (loop_on r) (loop_on s)
   behind S T join more = boxed_then Still S T join (loop_on r) (loop_on m) (loop_on s) (ready_still view was r m ready) more
 

@@ -1,4 +1,4 @@
--- What `ready` tells, in the words of the rings before and behind it.
+-- What `ready` tells, in the words of the rings before and after it.
 use Rattle.std.proofs.Common.{◌≡◌, Bool, true, false, ap, refl}
 use Rattle.std.specs.Prelude.{Ok, Err}
 use Rattle.il_ports.specs.Media.{MediumView}

@@ -21,7 +21,7 @@ use Rattle.il_control.proofs.Fresh.{new_lost}
 use Rattle.il_record.specs.Polls.{MayPoll}
 use Rattle.il_record.proofs.Places.{new_may_poll}
 
--- the devices behind the drive, a second controller as the last one, may all stand on a new ring
+-- the devices after the drive, a second controller as the last one, may all stand on a new ring
 all_stand : {X : Type 0} (state : X → DeviceState) (ys : List X) (guest : Option GuestState) (ds : List DeviceState) → ds ≡ map state ys ++ guest_devices guest
     → All (λ x. MayStand (state x)) ys → IsIdleGuest guest → MayBeGuest guest → All MayStand ds
 all_stand state ys guest ds is last idle may =

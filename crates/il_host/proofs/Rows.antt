@@ -15,7 +15,7 @@ use Rattle.il_host.specs.Texts.{entry_line, device_line}
 
 -- ---- devices
 
--- one more device behind the others
+-- one more device after the others
 pub one_device_more : (address : ℕ) (ids : List (Option ℕ)) (id : Option ℕ) → device_lines address (ids ++ id ∷ []) ≡ device_lines address ids ++ device_line (address + length ids) id
 one_device_more address [] id = append-nil (device_line address id) ∙ ap (λ (n : ℕ). device_line n id) (omega arith)
 one_device_more address (first ∷ ids) id =

@@ -22,11 +22,12 @@ use Rattle.host_model.specs.Orders.{quiet_mode}
 use Rattle.host_model.proofs.Growing.{all_ok_more, texts_more}
 use Rattle.il_host.specs.HostView.{HostView, IsHost}
 use Rattle.il_host.specs.Run.{Answers, AnswersScript, end_of, event_of}
-use Rattle.il_host.specs.Writing.{WritesAll}
+use Rattle.il_ports.specs.Writing.{WritesAll}
 use Rattle.il_host.specs.declared.ending.Ending.{Ending}
 use Rattle.il_host.specs.declared.ending.Ending.TheVariants as ending
 use Rattle.il_host.proofs.Answered.{Answered, answered_none, answered_more, answers_script}
-use Rattle.il_host.proofs.Known.{appends-trans, appends-none}
+use Rattle.il_ports.proofs.Writing.{appends-trans}
+use Rattle.il_host.proofs.Known.{appends-none}
 
 -- ---- items
 
@@ -54,7 +55,7 @@ items_push given standing line o is makes = items_append Outside given (line ∷
 
 -- ---- texts
 
--- nothing is written behind the last event
+-- nothing is written after the last event
 output_is : (quiet : Bool) (events : List Event) (texts : List (List ℕ)) → output (quiet_mode quiet) events texts ≡ event_texts (quiet_mode quiet) events texts
 output_is true events texts = append-nil (event_texts (quiet_mode true) events texts)
 output_is false events texts = append-nil (event_texts (quiet_mode false) events texts)
@@ -304,7 +305,7 @@ module _ (quiet : Bool) (old new : Progress) (standing : Gathering) (v w : HostV
       ))
       tt whole
 
--- the counts of faults behind a script that was answered whole
+-- the counts of faults after a script that was answered whole
 pub whole_cause : (b : Bool) (end : Ending) (source source_now sink sink_now medium medium_now : ℕ) → end ≡ (if b then ending.AllOk else ending.SomeNotOk) → source_now ≡ source → sink_now ≡ sink → medium ≤ medium_now
     → HasEndingCause (end_of end) source source_now sink sink_now medium medium_now
 whole_cause b end source source_now sink sink_now medium medium_now is source_is sink_is grown = subst (λ (d : Ending). HasEndingCause (end_of d) source source_now sink sink_now medium medium_now) (sym is) (by b)

@@ -1,4 +1,4 @@
--- What the devices heard of the log of a command that sends bytes to one of them, behind exchanges in which none heard anything.
+-- What the devices heard of the log of a command that sends bytes to one of them, after exchanges in which none heard anything.
 use Rattle.std.proofs.Common.{◌≡◌, ◌≢◌, ◌≤◌, ◌<◌, ◌+◌, ◌++◌, ◌==◌, ◌∙◌, ℕ, Bool, true, false, List, [], length, take, refl, sym, ap, ap₂, subst, arith, append-nil}
 use Rattle.std.specs.Prelude.{MatchBool}
 use Rattle.std.proofs.lemmas.Bool.{eq-eqb}

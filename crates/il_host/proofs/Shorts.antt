@@ -65,7 +65,7 @@ each_lent frames r z party (d ∷ ds) (e ∷ es) became short =
 each_lent frames r z party [] (e ∷ es) became short = absurd became
 each_lent frames r z party (d ∷ ds) [] became short = absurd became
 
--- behind a command
+-- after a command
 pub short_behind : {plan : List Planned} (e : Event) → Acts plan e → AllShort e.before.loop → AllShort e.after.loop
 short_behind e acts short = ⊎_elim lent (λ other. all_short _ _ _ _ e.before.loop e.after.loop (acts.heard other) short) (is_lend_or e.item)
   where

@@ -1,4 +1,4 @@
--- What is said of an event holds whether the store counts as sound before and behind it, or not, and whether the directory is kept, but
+-- What is said of an event holds whether the store counts as sound before and after it, or not, and whether the directory is kept, but
 -- for where it is said of that.
 use Rattle.std.proofs.Common.{◌≡◌, ◌∙◌, ℕ, Bool, true, false, not, List, refl, sym, subst}
 use Rattle.lif_model.specs.Stops.{LeavesOnly}

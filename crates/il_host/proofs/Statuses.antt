@@ -5,12 +5,12 @@ use Rattle.std.proofs.lemmas.Grind.{flat_map-append}
 use Rattle.il_frames.specs.declared.entry.Entry.{Entry}
 use Rattle.il_device.specs.Roles.{is_own}
 use Rattle.il_guest.specs.Rounds.{addresses_from}
-use Rattle.il_ring.specs.Statuses.{last_told}
+use Rattle.il_ring.specs.Statuses.{last_known}
 use Rattle.host_model.specs.Replies.{guest_line, guest_lines}
 
 -- ---- one line after the other
 
--- the address behind the others is asked too, unless it is the own one
+-- the address after the others is asked too, unless it is the own one
 pub addresses_more : (own : Option ℕ) (a n : ℕ) → addresses_from own a (suc n) ≡ addresses_from own a n ++ (if is_own own (a + n) then [] else (a + n) ∷ [])
 addresses_more own a zero = ap (λ (b : ℕ). if is_own own b then [] else b ∷ []) (omega arith)
 addresses_more own a (suc n) =
@@ -31,7 +31,7 @@ module _ (own : ℕ) (log : List Entry) where
   lines_to n = guest_lines own log (addresses_from (Some own) 1 n)
 
   abbrev line_of : ℕ → List ℕ
-  line_of a = guest_line a (last_told own a log)
+  line_of a = guest_line a (last_known own a log)
 
   lines_more : (n : ℕ) → lines_to (suc n) ≡ lines_to n ++ (if own == suc n then [] else line_of (suc n))
   lines_more n =

@@ -37,7 +37,7 @@ module _ {M S : Type 0} (view : M → MediumView) (seen : S → RingView M) (o a
   pub asked_transferred : (view_of view seen p mid).transferred []
   asked_transferred = start_transferred view begun.ready begun.sound begun.ring mid.ring (made_sound view begun mid emptied.unbroken x emptied.stands makes).started.by empties.transferred
 
-  -- behind calls that did not fail some are told
+  -- after calls that did not fail some are told
   pub asked_lists : {U : Type 0} {y : U} (q : S) (calls : ℕ) (new : LoopView M) → seen p ≡ mid.ring → GoesOn calls (view_of view seen p mid) (view_of view seen q new) (Ok y)
       → (list : List Transfer) × (view_of view seen q new).transferred list
   asked_lists {y = y} q calls new agrees goes =

@@ -201,7 +201,7 @@ not_carried command (reply.No code) n volume transferred not = tt
 not_carried command reply.FaultFrame n volume transferred not = tt
 not_carried command reply.FaultMedium n volume transferred not = tt
 
--- as behind a fault
+-- as after a fault
 pub none_carried : (command : VolumeCommand) (e : Trouble) (n : ℕ) (volume : Option Volume) (transferred : List Transfer → Type 0) → CarriesAs command (fault_of e) n volume transferred
 none_carried command trouble.Frame n volume transferred = not_carried command reply.FaultFrame n volume transferred tt
 none_carried command trouble.Medium n volume transferred = not_carried command reply.FaultMedium n volume transferred tt

@@ -1,4 +1,4 @@
--- The exchanges of a command of the volume: those that make the store sound, where it is not, and those behind them.
+-- The exchanges of a command of the volume: those that make the store sound, where it is not, and those after them.
 use Rattle.std.proofs.Common.{◌≡◌, ◌⊎◌, ⊎_elim, ◌≤◌, ◌∙◌, ℕ, Bool, true, false, not, List, [], length, Option, refl, sym, ap, subst}
 use Rattle.std.specs.Prelude.{Result, Ok, Err}
 use Rattle.lif_model.specs.Causes.{Rose}
@@ -31,7 +31,7 @@ use Rattle.il_host.proofs.Keeping.{Keeps, begins_front, came_behind, keeps_begin
 
 -- ---- the store is made sound
 
--- The ring m behind it: as it was where the store was sound; else the loop was addressed where it was not ready, and the drive cleared.
+-- The ring m after it: as it was where the store was sound; else the loop was addressed where it was not ready, and the drive cleared.
 abbrev pub StartsBy : {M : Type 0} → (M → MediumView) → (was sound : Bool) → RingView M → RingView M → Type 0
 StartsBy view was true r m = m ≡ r
 StartsBy view was false r m = Keeps view true (addressed_first (loop_on r) was (clears_due (loop_on r))) r m
@@ -44,7 +44,7 @@ pub record Started {M : Type 0} (view : M → MediumView) (was sound : Bool) (r 
   pub medium : m.drive.medium ≡ r.drive.medium
   pub place : length m.before ≡ length r.before
 
--- ---- behind it
+-- ---- after it
 
 -- By the answer of the store, what became of the ring m: exchanges whose units all have status 0, or none; a unit has another status,
 -- which the drive told; or the last exchange was broken off. The counts of the medium tell the same.
@@ -76,12 +76,12 @@ module _ {M : Type 0} (view : M → MediumView) (was : Bool) (r : RingView M) wh
         begins = begins_front dues first.came.came.pieces came.pieces first.keeps first.came.came.talked.ends;
       }
 
-  -- exchanges behind it
+  -- exchanges after it
   pub joined : (whole sound : Bool) (m s : RingView M) → Started view was sound r m → (came : CameBy view whole m s) → Joined view whole was sound (units_of (loop_of m) came.pieces) r s
   joined whole true m s start came = joined_sound whole m s start.by came
   joined whole false m s start came = joined_cleared whole m s start.free start.by came
 
-  -- none behind it
+  -- none after it
   pub joined_alone : (m s : RingView M) → StartsBy view was false r m → s ≡ m → Joined view true was false [] r s
   joined_alone m s first same =
       subst (λ (s : RingView M). Joined view true was false [] r s) (sym same)
@@ -182,7 +182,7 @@ volume_exchanged {M} {T} view command was is sound sound_now r m s answer answer
     faults_same : (view m.drive.medium).faults ≡ (view r.drive.medium).faults
     faults_same = ap (λ medium. (view medium).faults) start.medium
 
-    -- nothing came behind it
+    -- nothing came after it
     ok_alone : (sound : Bool) → Started view was sound r m → s ≡ m → CarriesBy view command reply.Ok was r s → Exchanged (r.books.plan) (event_by view (Asks (OfVolume command)) reply.Ok was is sound sound_now r s)
     ok_alone true start same carries = ok_none view command was is true sound_now r s empty (same ∙ start.by) refl carries
     ok_alone false start same carries = ok_joined view command was is false sound_now r s empty [] (joined_alone view was r m s start.by same) refl (ap (λ (s : RingView M). (view s.drive.medium).faults) same ∙ faults_same) carries

@@ -19,12 +19,12 @@ use Rattle.host_model.specs.Steps.{HearsLog}
 use Rattle.host_model.proofs.RingStates.{count_on, roles_on}
 use Rattle.il_host.proofs.Devices.{boxed_by, boxed_unheard}
 
--- a device that heard nothing is as it is to be behind a command of the volume
+-- a device that heard nothing is as it is to be after a command of the volume
 heard_nothing : (command : VolumeCommand) (answer : Reply) (z : LoopState) (party : ℕ) (d e : DeviceState) → HearsNothing d e → DeviceBehind (Asks (OfVolume command)) answer z party d e
 heard_nothing command answer z party d e nothing = record { accessory = nothing.accessory; hears = nothing; service = λ is. cc }
 
 module _ {M : Type 0} (r s : RingView M) (place : length s.before ≡ length r.before) (unheard : OnlyHeard (drive_party r) r s) where
-  -- no device but the drive heard anything, and the drive's status is that behind the reply
+  -- no device but the drive heard anything, and the drive's status is that after the reply
   pub volume_next : (command : VolumeCommand) (answer : Reply) → StatusBehindVolume answer (status_of s.drive.state) → Next (Asks (OfVolume command)) answer (loop_on r) (loop_on s)
   volume_next command answer status = record {
     devices = boxed_unheard (DeviceBehind (Asks (OfVolume command)) answer (loop_on r)) r s place unheard (heard_nothing command answer (loop_on r));

@@ -55,7 +55,7 @@ seen_as view seen p l = record { tape = refl; records = refl }
 pub seen_still : {S : Type 0} (s : HostState) (v w : RecordsView S) → IsSeenAs s v → IsQuiet v w → w.record_count ≡ v.record_count → IsSeenAs s w
 seen_still s v w so quiet size = record { tape = so.tape ∙ sym quiet.tape; records = so.records ∙ sym size }
 
--- one quiet step behind the other
+-- one quiet step after the other
 pub quiet_then : {S : Type 0} (u v w : RecordsView S) → IsQuiet u v → IsQuiet v w → IsQuiet u w
 quiet_then u v w first next = record {
   tape = next.tape ∙ first.tape;
@@ -127,12 +127,12 @@ broke_stops item answered v w s t log before store quiet told =
 
 -- ---- the volume was asked
 
--- x is shown with the volume that t is shown with before the command, or the one behind it, and has no gate that is not ours
+-- x is shown with the volume that t is shown with before the command, or the one after it, and has no gate that is not ours
 pub record ShowsEither (n : ℕ) (command : VolumeCommand) (t x : Tape) : Type 0 where
   pub volume : (finished_volume_of x ≡ finished_volume_of t) ⊎ (finished_volume_of x ≡ (apply n command (finished_volume_of t)).1)
   pub own_gate : is_foreign_gated x ≡ false
 
--- at any moment, and behind the call
+-- at any moment, and after the call
 pub record ShownTurns {S : Type 0} (n : ℕ) (command : VolumeCommand) (v w : RecordsView S) (t : Tape) : Type 0 where
   pub stops : RunLeaves v w (ShowsEither n command t)
   pub after : (u : Tape) × (w.tape ≡ Some u) × ShowsEither n command t u
@@ -143,7 +143,7 @@ TurnsSo command view old new =
     ((t : Tape) → IsTold view old t → is_foreign_gated t ≡ false → ShownTurns (view old.records).record_count command (view old.records) (view new.records) t)
     × ((t : Tape) → IsTold view old t → is_foreign_gated t ≡ true → SettlesOnly (view old.records) (view new.records) t)
 
--- the answer and the volume behind it are those of the command
+-- the answer and the volume after it are those of the command
 abbrev pub AnswersShown : {T : Type 0} → ℕ → VolumeCommand → Tape → Tape → Result T VolumeFault → Type 0
 AnswersShown n command t u (Ok x) = apply n command (finished_volume_of t) ≡ (None, finished_volume_of u)
 AnswersShown n command t u (Err (Refused why)) = apply n command (finished_volume_of t) ≡ (Some why, finished_volume_of u)
@@ -177,7 +177,7 @@ fits_fault T trouble.Medium = refl
 
 -- ---- an item of the volume, of which a stop leaves a tape that stands so to the one before
 
--- at any moment, and behind the call
+-- at any moment, and after the call
 pub record LeavesBy {S : Type 0} (Left : Tape → Type 0) (v w : RecordsView S) : Type 0 where
   pub stops : RunLeaves v w Left
   pub after : (u : Tape) × (w.tape ≡ Some u) × Left u
@@ -287,7 +287,7 @@ module _ {S : Type 0} (command : VolumeCommand) (v w : RecordsView S) (s t : Hos
   leaves_either : (x : Tape) → v.tape ≡ Some x → is_foreign_gated x ≡ false → LeavesBy (Left x) v w
   leaves_either x is own = let so = turns x is own in record { stops = so.stops; after = so.after }
 
-  -- A stop leaves the volume before the command or the one behind it.
+  -- A stop leaves the volume before the command or the one after it.
   pub volume_stops : (answered : Reply) (u : RecordsView S) → IsQuiet u v → StopsLeave (volume_event command answered log s t) u.moment w.moment u.left_since w.left_since
   volume_stops = item_stops (Asks (OfVolume command)) refl v w s t log before after Either (λ c so. so) Left either_left (λ x c has. has.own_gate) leaves_either foreign
 
@@ -296,7 +296,7 @@ module _ {S : Type 0} (command : VolumeCommand) (v w : RecordsView S) (s t : Hos
       let now : volume_at t ≡ finished_volume_of u = ap (λ tape. option_and_then finished_volume_of tape) is in
       ⊎_elim (λ same. inl (now ∙ same)) (λ other. inr (now ∙ other)) so
 
-  -- the volume is the one before or the one behind
+  -- the volume is the one before or the one after
   either : HasOwnGate s → is_some s.tape ≡ true → EitherVolume (Asks (OfVolume command)) s t
   either own told =
       let tape = told_tape s.tape told in

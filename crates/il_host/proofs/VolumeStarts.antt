@@ -107,7 +107,7 @@ module _ {M : Type 0} (view : M → MediumView) (was : Bool) (r m : RingView M) 
     place = done.came.units.came.talked.adds.before ∙ (ready_leaves view was r m ready).place;
   }
 
--- the loop is ready behind it, and the store sound
+-- the loop is ready after it, and the store sound
 pub record MadeSound {M : Type 0} (view : M → MediumView) (begun mid : LoopView M) : Type 0 where
   pub ready : mid.ready ≡ true
   pub sound_now : mid.sound ≡ true
@@ -116,7 +116,7 @@ pub record MadeSound {M : Type 0} (view : M → MediumView) (begun mid : LoopVie
   pub started : Started view begun.ready begun.sound begun.ring mid.ring
 
 module _ {M : Type 0} (view : M → MediumView) (begun new : LoopView M) (unbroken : begun.since ≡ since.Unbroken) where
-  -- how the log stands behind `ready`
+  -- how the log comes after `ready`
   since_ready : (is : Bool) (ready : LoopView M) → Addresses {T = Unit {0}} view is (counted_resume begun) ready (Ok tt) → ready.since ≡ since.Unbroken
   since_ready true ready so = ap (λ (l : LoopView M). l.since) so ∙ unbroken
   since_ready false ready so = ap (λ (l : LoopView M). l.since) so.left ∙ ap since_more unbroken

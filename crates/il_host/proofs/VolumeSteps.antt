@@ -61,7 +61,7 @@ volume_step plan e command is replied loop = record {
 
 -- ---- the rings
 
--- what is told of the event by its rings, where the loop is so ready behind it
+-- what is told of the event by its rings, where the loop is so ready after it
 pub tells_rings : {M : Type 0} (view : M → MediumView) (item : Item) (answer : Reply) (begun new : LoopView M) (is : Bool) → new.ready ≡ is → TellsLoop begun.ring.books.plan (event_by view item answer begun.ready is begun.sound new.sound begun.ring new.ring)
     → TellsLoop begun.ring.books.plan (event_at view item answer begun new)
 tells_rings view item answer begun new is ready tells = subst (λ is. TellsLoop begun.ring.books.plan (event_by view item answer begun.ready is begun.sound new.sound begun.ring new.ring)) (sym ready) tells
@@ -74,7 +74,7 @@ within_room room log left = omega (arith, left)
 
 -- ---- the store answered
 
--- how the log stands behind a call that failed
+-- how the log comes after a call that failed
 idle_medium : (log : Since) → FailedReady log (Some trouble.Medium) → log ≡ since.Failed
 idle_medium since.Unbroken is = cc
 idle_medium since.Failed is = refl
@@ -95,13 +95,13 @@ lost_frame since.Unbroken is = cc
 lost_frame since.Broken is = refl
 lost_frame _ is = absurd is
 
--- whether the loop is ready behind this answer
+-- whether the loop is ready after this answer
 abbrev pub ready_behind : {T : Type 0} → Result T Trouble → Bool
 ready_behind (Ok x) = true
 ready_behind (Err trouble.Frame) = false
 ready_behind (Err trouble.Medium) = true
 
--- the drive's status is 0 but behind a fault of the frames
+-- the drive's status is 0 but after a fault of the frames
 abbrev pub StatusAs : {T : Type 0} → Result T Trouble → ℕ → Type 0
 StatusAs (Ok x) status = status ≡ 0
 StatusAs (Err trouble.Frame) status = Unit {0}

@@ -152,7 +152,7 @@ not_failed ending.ScriptTooLong order refused inside = tt
 
 -- ---- the image that was inserted
 
--- by the medium v before the insert, in which no tape is, and m behind it
+-- by the medium v before the insert, in which no tape is, and m after it
 module _ (order : Order) (made : New) (v m : MediumView) (makes : order.made ≡ records_made made) (empty : v.record_count ≡ 0) (law : IsMedium v) (law_now : IsMedium m) (did : DidInsert order.image made v m (Ok answers.Tape)) where
   inserted : (tape : Option Tape) → tape ≡ m.tape → (old : Outside) → old.shelf ≡ v.shelf → Inserts order old tape
   inserted tape is old same = record {
@@ -164,7 +164,7 @@ module _ (order : Order) (made : New) (v m : MediumView) (makes : order.made ≡
   left_in : (x : Tape) → (v.left_since v.moment x → ⊥) → m.left_since v.moment x → m.tape ≡ Some x
   left_in x never left = ⊎_elim (λ was. absurd (never was)) (λ is. is) (did.since v.moment x left)
 
-  -- behind the insert the image has the tape's bytes, and every other one is as before
+  -- after the insert the image has the tape's bytes, and every other one is as before
   keeps_shelf : (w : MediumView) → IsMedium w → IsSize w.record_count → KeepsImages m.inside w.inside m.shelf w.shelf
       → (left left_now written written_now : Option (List ℕ)) (before after before_now after_now : List DeviceState) (guest guest_now : Option GuestState)
       → KeepsShelf order (outside v left written before after guest) (outside w left_now written_now before_now after_now guest_now)
@@ -222,7 +222,7 @@ module _ (order : Order) (made : New) (v m : MediumView) (makes : order.made ≡
         stops = λ told x left. tape ∙ left_in x left.0 (subst (λ (w : MediumView). w.left_since v.moment x) same left.1);
       }
 
-  -- by the ending of what came behind the insert
+  -- by the ending of what came after the insert
   by_ending : (e : Ending) (old now : Outside) (stopped : Tape → Type 0) → (HasNoTape (end_of e) → ⊥) → (e ≡ ending.OutOfMemory → LeavesImage order old now stopped)
       → (e ≢ ending.OutOfMemory → RunsOver (end_of e) order old now stopped) → LeavesBy (end_of e) (Some order) old now stopped
   by_ending ending.OutOfMemory old now stopped inside kept ran = inr (kept refl)

@@ -9,7 +9,7 @@ use Rattle.il_host.specs.Run.{Answers}
 
 -- ---- lines
 
--- the line that the draws from this state on choose, and the state behind them
+-- the line that the draws from this state on choose, and the state after them
 unfoldable pub next_line : ℕ → List ℕ
 next_line x = chosen_line (drawn (draw x)) (drawn (draw (draw x))) (drawn (draw (draw (draw x))))
 

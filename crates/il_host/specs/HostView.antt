@@ -61,7 +61,7 @@ pub record IsHost (v : HostView) : Type 0 where
 abbrev pub event_between : Item → Reply → HostView → HostView → Event
 event_between item reply v w = event item reply w.log v.state w.state
 
--- how many records the room behind this log is enough for, at 300 entries each, on a loop with a medium of n records
+-- how many records the room after this log is enough for, at 300 entries each, on a loop with a medium of n records
 abbrev pub calls_behind : ℕ → List Entry → ℕ
 calls_behind n log = calls_in (log_room n - length log)
 

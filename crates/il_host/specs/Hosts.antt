@@ -95,7 +95,7 @@ host_in view seen v text text_space space =
 
 -- ---- opening and closing
 
--- The host was opened on this medium, over devices before and behind the drive, and a second controller behind them, where there is one.
+-- The host was opened on this medium, over devices before and after the drive, and a second controller after them, where there is one.
 pub record IsOpened {M : Type 0} (view : M → MediumView) (medium : M) (before after : List DeviceState) (guest : Option GuestState) (plan : List Planned)
     (v : HostView) : Type 0 where
   pub valid : v.valid

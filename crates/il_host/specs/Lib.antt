@@ -14,3 +14,5 @@ pub mod Whole
 pub mod Gathering
 pub mod Generating
 pub mod Buffers
+pub mod Kept
+pub mod Jobs

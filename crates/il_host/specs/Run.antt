@@ -13,7 +13,7 @@ use Rattle.host_model.specs.Endings.{RunEnd}
 use Rattle.host_model.specs.Endings as end
 use Rattle.host_model.specs.Leaves.{RunSoFar}
 use Rattle.il_host.specs.HostView.{HostView, KeepsImages}
-use Rattle.il_host.specs.Writing.{WritesAll}
+use Rattle.il_ports.specs.Writing.{WritesAll}
 use Rattle.il_host.specs.declared.ending.Ending.{Ending}
 use Rattle.il_host.specs.declared.ending.Ending.TheVariants as ending
 use Rattle.il_host.specs.declared.running.Asked.{Asked}

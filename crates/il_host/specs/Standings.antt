@@ -65,7 +65,7 @@ MakesSoundBy view false old new answer = Resumes view false (counted_resume old)
 abbrev pub MakesSound : {M T : Type 0} → (M → MediumView) → LoopView M → LoopView M → Result T Trouble → Type 0
 MakesSound view old new answer = MakesSoundBy view old.sound old new answer
 
--- ---- behind it
+-- ---- after it
 
 -- the reply to a command of the volume is a fault exactly where the store failed, and the same one
 abbrev pub FitsAnswer : {T : Type 0} → Result T Trouble → Reply → Type 0

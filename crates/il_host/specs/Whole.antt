@@ -29,7 +29,7 @@ use Rattle.il_host.specs.Words.{order_in}
 abbrev pub tape_in : MediumView → Option Tape
 tape_in m = if m.record_count == 0 then None else m.tape
 
--- the medium, what is left of the script and what was written, the devices before and behind the drive, and a second controller
+-- the medium, what is left of the script and what was written, the devices before and after the drive, and a second controller
 abbrev pub outside : MediumView → (left written : Option (List ℕ)) → (before after : List DeviceState) → Option GuestState → Outside
 outside m left written before after guest = record {
   shelf = m.shelf;

@@ -1,12 +1,9 @@
--- A write that may have stopped in between.
-use Rattle.std.specs.Prelude.{ℕ, ◌≡◌, ◌≤◌, ◌++◌, Bool, true, false, List, length, take, Option, Result, Ok, Err}
+-- What waits to be written, and what is told of a command.
+use Rattle.std.specs.Prelude.{ℕ, ◌≡◌, ◌++◌, Bool, true, false, List, Option, Result, Ok, Err}
 use Rattle.std.specs.Io.KnownBytes.{Appends}
+use Rattle.il_ports.specs.Writing.{WritesFront}
 use Rattle.il_frames.specs.declared.entry.Entry.{Entry}
 use Rattle.host_model.specs.Replies.{trace_text}
-
-abbrev pub WritesAll : {E : Type 0} → Option (List ℕ) → Option (List ℕ) → List ℕ → Result (Unit {0}) E → Type 0
-WritesAll before now text (Ok u) = Appends before now text
-WritesAll before now text (Err e) = (n : ℕ) × (n ≤ length text) × Appends before now (take n text)
 
 -- of a text all was written but what waits
 pub record Waits (before now : Option (List ℕ)) (text waiting : List ℕ) : Type 0 where
@@ -17,7 +14,7 @@ pub record Waits (before now : Option (List ℕ)) (text waiting : List ℕ) : Ty
 -- what waited may have been written, so that there is room; or the write stopped within it
 abbrev pub MakesRoom : {E : Type 0} → Option (List ℕ) → Option (List ℕ) → (waited waiting : List ℕ) → Result (Unit {0}) E → Type 0
 MakesRoom before now waited waiting (Ok u) = Waits before now waited waiting
-MakesRoom before now waited waiting (Err e) = (n : ℕ) × (n ≤ length waited) × Appends before now (take n waited)
+MakesRoom before now waited waiting (Err e) = WritesFront before now waited
 
 -- what is told of a command: its log, unless the run is quiet, and the text of its reply
 abbrev pub told_text : Bool → List Entry → List ℕ → List ℕ

@@ -15,8 +15,7 @@ use crate::ending::Ending;
 use crate::parts::put_next_number;
 use crate::performer::Performer;
 use crate::running::{Asked, read_text};
-use crate::write::write_all;
-use il_ports::Sink;
+use il_ports::{Sink, write_all};
 use il_script::{Page, Payload, Reply};
 use std::marker::Model;
 

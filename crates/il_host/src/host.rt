@@ -15,7 +15,8 @@ use il_frames::Entry;
 use il_ports::{Medium, Records, Trouble};
 use il_record::{LoopRecords, Looped};
 use il_script::{Command, Page, Reply};
-use lif_dir::Batch;
+use lif_dir::{Batch, SlotTable};
+use lif_header::Header;
 use lif_pack::Packer;
 use lif_volume::Volume;
 use std::marker::PhantomData;
@@ -78,6 +79,15 @@ impl<M: Medium + Drop> Performer for Host<M> {
 
     fn log(&self) -> &[Entry] {
         self.volume.records().ring().log()
+    }
+
+    fn size(&self) -> u16 {
+        self.volume.records().size()
+    }
+
+    fn directory(&self) -> Option<(Header, &SlotTable)> {
+        let header = self.volume.header()?;
+        Some((header, self.volume.slots()))
     }
 }
 

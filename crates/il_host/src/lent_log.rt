@@ -29,14 +29,14 @@ fn is_ended(party: u8, entry: Entry, after: &[Entry]) -> bool
 
 /// Whether the entry is a byte that `party` was told.
 fn is_told(party: u8, entry: Entry, after: &[Entry]) -> bool
-    ensures { result ≡ spec.is_told party entry after.now }
+    ensures { result ≡ spec.is_reported party entry after.now }
 {
     entry.frame.is_data() && is_ended(party, entry, after)
 }
 
 /// Whether the entry is an SST of `party` that came back: no device answered it.
 fn tells_none(party: u8, entry: Entry) -> bool
-    ensures { result ≡ spec.tells_none party entry }
+    ensures { result ≡ spec.reports_none party entry }
 {
     entry.source == party
         && (entry.frame == Frame::of(Message::Sst) && matches!(entry.outcome, Outcome::Back(_)))
@@ -54,7 +54,7 @@ fn asked_after(party: u8, asked: Option<u8>, entry: Entry) -> Option<u8>
 
 /// What is known of the address that is asked after the entry, which these follow.
 fn known_after(party: u8, known: Option<u8>, entry: Entry, after: &[Entry]) -> Option<u8>
-    ensures { result ≡ spec.known_behind party known entry after.now }
+    ensures { result ≡ spec.known_after party known entry after.now }
 {
     if tells_none(party, entry) {
         None
@@ -67,7 +67,7 @@ fn known_after(party: u8, known: Option<u8>, entry: Entry, after: &[Entry]) -> O
 
 /// The last status of `address` that `party` was told: the byte of the last one, or `None` where SST came back since.
 pub(crate) fn last_status(log: &[Entry], party: u8, address: u8) -> Option<u8>
-    ensures { result ≡ spec.last_told party address log.now }
+    ensures { result ≡ spec.last_known party address log.now }
 {
     let mut asked = None;
     let mut known = None;

@@ -1,11 +1,13 @@
 use il_frames::Entry;
 use il_script::{Command, Reply};
-use lif_dir::Batch;
+use lif_dir::{Batch, SlotTable};
+use lif_header::Header;
 
 /// What performs commands, one after the other. The loop over a script is proved for every performer, and the host is
 /// one.
 pub trait Performer {
-    ghost use Rattle.std.specs.Prelude.{◌≡◌, ◌≤◌, length};
+    ghost use Rattle.std.specs.Prelude.{◌≡◌, ◌≤◌, length, IfSome, is_some};
+    ghost use Rattle.il_host.specs.Kept.{TellsKept};
     ghost use Rattle.il_script.specs.declared.limits.TheConstants.{LONGEST_PAYLOAD};
     ghost use Rattle.host_model.specs.Requests.{item_for};
     ghost use Rattle.il_host.specs.HostView.{HostView, IsHost, Performed};
@@ -37,6 +39,18 @@ pub trait Performer {
     fn log(&self) -> &[Entry]
         requires { (view self.now).valid }
         ensures { result.now ≡ (view self.now).log };
+
+    /// The number of records of the medium.
+    fn size(&self) -> u16
+        requires { (view self.now).valid }
+        ensures { result ≡ (view self.now).state.records };
+
+    /// What record 0 says, and the slots of the directory, if they are kept in memory: they are after each command of
+    /// the volume that replied ok, except `pack`.
+    fn directory(&self) -> Option<(Header, &SlotTable)>
+        requires { (view self.now).valid }
+        ensures kept { is_some result ≡ (view self.now).state.kept }
+        ensures told { IfSome result (λ d. TellsKept (view self.now).state d.0 d.1.now.slots) };
 
     ghost is_host: { (p : Self) → (view p).valid → IsHost (view p) };
 }

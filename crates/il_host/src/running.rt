@@ -16,8 +16,8 @@ ghost use Rattle.il_host.specs.Run.{Answers, AnswersScript, end_of, item_asked};
 use crate::ending::Ending;
 use crate::gathering::{Gathering, alone, gather};
 use crate::performer::Performer;
-use crate::write::{write_all, write_told};
-use il_ports::{Failed, Sink, Source};
+use crate::write::write_told;
+use il_ports::{Failed, Sink, Source, write_all};
 use il_script::{Code, Command, Line, Lines, Payload, Reply, read_line};
 use lif_dir::Batch;
 

@@ -1,6 +1,7 @@
 ghost use Rattle.lif_model.specs.Causes.{HasCause};
 ghost use Rattle.host_model.specs.Replies.{trace_text};
-ghost use Rattle.il_host.specs.Writing.{WritesAll, MakesRoom, told_text};
+ghost use Rattle.il_ports.specs.Writing.{WritesAll};
+ghost use Rattle.il_host.specs.Writing.{MakesRoom, told_text};
 ghost use Rattle.std.specs.Prelude.{◌≡◌, ◌≤◌, ◌+◌, ◌++◌, OnOk};
 ghost use Rattle.arrayvec.specs.ArrayVec.{array_vec_len};
 ghost use Rattle.il_script.specs.Replies.{text_line};
@@ -8,26 +9,13 @@ ghost use Rattle.il_frames.specs.Entries.{entry_text};
 
 use arrayvec::ArrayVec;
 use il_frames::Entry;
-use il_ports::{Failed, Sink};
+use il_ports::{Failed, Sink, write_all};
 
 /// How many bytes of a trace are written as one piece, at most.
 const PIECE: usize = 4096;
 
 /// How many bytes the line of an entry has, at most, with its line feed.
 const LONGEST_LINE: usize = 41;
-
-/// Writes all of the bytes, in as many pieces as the sink takes. After a fault a front of them was written.
-pub fn write_all<K: Sink>(out: &mut K, bytes: &[u8]) -> Result<(), Failed>
-    ensures bytes { WritesAll (K.written out.old) (K.written out.new) bytes.now result }
-    ensures cause { HasCause (K.faults out.old) (K.faults out.new) result }
-{
-    let mut from = 0;
-    'pieces: while from < bytes.len() {
-        let count = out.write(&bytes[from..])?;
-        from += count;
-    }
-    Ok(())
-}
 
 /// Puts the line of an entry after those that wait to be written.
 fn put_entry(waiting: &mut ArrayVec<u8, PIECE>, entry: &Entry)

@@ -37,7 +37,7 @@ abbrev pub agree : Bool → Bool → Bool
 agree true b = b
 agree false b = not b
 
--- the identify byte behind a device
+-- the identify byte after a device
 abbrev pub polled : Option Assignment → Bool → ℕ → ℕ
 polled None wants byte = byte
 polled (Some a) wants byte = if agree a.sense wants then bit_or byte (2 ^ a.bit) else byte

@@ -122,7 +122,7 @@ impl Default for ServiceState {
     }
 }
 
-/// The identify byte behind a device with this place in the poll.
+/// The identify byte after a device with this place in the poll.
 fn answered(place: Option<Assignment>, wants: bool, byte: u8) -> u8
     requires { IsPlace place }
     ensures { result ≡ polled place wants byte }

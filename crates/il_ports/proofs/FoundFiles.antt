@@ -36,14 +36,14 @@ module _ (v claimed apart measured : FileView) where
   long : {E : Type 0} (count : ℕ) → Rests v claimed → Rests claimed apart → Measured {E = E} apart measured (Ok count) → (s : List ℕ) → v.seen ≡ Some s → length s ≡ count
   long count a b c s is = c.answer_is s (b.seen ∙ a.seen ∙ is)
 
-  -- it is only read
-  pub read_alone : {U D E : Type 0} (count : ℕ) (x : U) → Claimed access.Read v claimed true → SetApart {T = U} {E = D} claimed apart (Ok x) → Measured {E = E} apart measured (Ok count)
-      → IsSettledFile v → IsTaken access.Read v measured count
-  read_alone count x a b c settled =
+  -- the disk has what it reads as
+  pub taken_settled : {U D E : Type 0} (access : Access) (count : ℕ) (x : U) → Claimed access v claimed true → SetApart {T = U} {E = D} claimed apart (Ok x) → Measured {E = E} apart measured (Ok count)
+      → IsSettledFile v → IsTaken access v measured count
+  taken_settled access count x a b c settled =
       let rests = untouched a.rests b.rests c.rests in (
         record {
           settled = still_settled v measured rests settled;
-          held = c.answers.held access.Read (b.answers.held access.Read (a.held refl));
+          held = c.answers.held access (b.answers.held access (a.held refl));
           apart = c.answers.itself.apart b.apart;
           named = c.answers.named ∙ b.answers.named ∙ a.named;
           told = ap (λ (o : Option (List ℕ)). is_some o) (rests.kept ∙ sym settled.clean.synced);

@@ -113,7 +113,7 @@ module _ (first : Tape) (history : Changes) (n : ℕ) (within : n < length first
   written_in : (i : ℕ) → n < length (changed (take i history) first)
   written_in i = omega (arith, within, length_changed (take i history) first)
 
-  -- what a record holds behind one write more
+  -- what a record holds after one write more
   pub held_next : (writes i : ℕ) (items : Changes) (old now : List ℕ) → items ≡ history → i < length (take writes items) → old ≡ record_at (changed (take i history) first) n
       → now ≡ (if (get_or (take writes items) i (0, [])).0 == n then (get_or (take writes items) i (0, [])).1 else old) → now ≡ record_at (changed (take (i + 1) history) first) n
   held_next writes i items old now same more was is =

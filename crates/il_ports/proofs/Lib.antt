@@ -1,6 +1,7 @@
 pub mod ImageBytes
 pub mod Shelves
 pub mod Kept
+pub mod Writing
 pub mod FileBytes
 pub mod FileCalls
 pub mod FileTapes

@@ -114,7 +114,7 @@ module _ (first i : ℕ) (pieces : List (List ℕ)) (old : RecordsState) where
       last : (t : Trouble) → counted {T = Unit {0}} (written_run {T = Unit {0}} first pieces i old (Ok tt)) (Err t) ≡ written_run {T = Unit {0}} first pieces i old (Err t)
       last t = λ j. record (counted {T = Unit {0}} (written_run {T = Unit {0}} first pieces i old (Ok tt)) (Err t)) { calls = calls j; left = left j }
 
--- the tape and the moments behind one piece more
+-- the tape and the moments after one piece more
 module _ (first i : ℕ) (pieces : List (List ℕ)) (t u now : Tape) (bytes : List ℕ) (more : i < length pieces) (bytes_are : bytes ≡ get_or pieces i []) (now_is : now ≡ set u (first + i) bytes) where
   pub replaced_next : first + length pieces ≤ length t → Replaced first (take i pieces) t u → Replaced first (take (i + 1) pieces) t now
   replaced_next fits done = subst (Replaced first (take (i + 1) pieces) t) (sym (now_is ∙ ap (λ (b : List ℕ). set u (first + i) b) bytes_are)) (replaced_more first i pieces t u more done fits)

@@ -37,7 +37,7 @@ continues_further j k v w u x r first next = record {
   cause = later_cause _ _ _ _ _ _ r first.cause.0 first.cause.1 next.cause;
 }
 
--- more calls, behind some that did not fail
+-- more calls, after some that did not fail
 pub goes_further : {S T U : Type 0} (j k : ℕ) (v w u : RecordsView S) (x : T) (r : Result U Trouble) → GoesOn j v w (Ok x) → GoesOn k w u r → GoesOn (j + k) v u r
 goes_further j k v w u x r first next = record {
   continues = continues_further j k v w u x r first.continues next.continues;

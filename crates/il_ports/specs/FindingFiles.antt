@@ -1,18 +1,18 @@
 -- How a file is made ready for a drive, and why that fails.
-use Rattle.std.specs.Prelude.{◌≡◌, ◌⊎◌, ◌<◌, ℕ, List, true, false, length, Option, Some, None, Result, Ok, Err, is_some}
+use Rattle.std.specs.Prelude.{◌≡◌, ◌⊎◌, ◌<◌, ℕ, Bool, List, true, false, length, Option, Some, None, Result, Ok, Err, is_some}
 use Rattle.lif_model.specs.Shelf.{Shelf, image_of}
 use Rattle.lif_model.specs.Causes.{Rose}
 use Rattle.il_ports.specs.Files.{FileView, IsSettledFile, StaysItself, byte_at}
-use Rattle.il_ports.specs.NamedImages.{ImagesView, MakesNone, IsOpenedFor, SettledIfRead, Looks, Opens, Makes, Names, Removes}
+use Rattle.il_ports.specs.NamedImages.{ImagesView, MakesNone, IsOpenedFor, Looks, Opens, Makes, Names, Removes}
 use Rattle.il_ports.specs.FileDrives.{IsFit}
 use Rattle.il_ports.specs.declared.images.Look.TheVariants as look
 use Rattle.il_ports.specs.declared.tape_file.Access.{Access}
 use Rattle.il_ports.specs.declared.tape_file.Access.TheVariants.{Change, Read}
 
--- a file that was just opened
-pub record Claimable (access : Access) (v : FileView) : Type 0 where
+-- A file that was just opened. The disk has what it reads as if that is known.
+pub record Claimable (access : Access) (is_settled : Bool) (v : FileView) : Type 0 where
   pub sound : v.broken ≡ false
-  pub settled : SettledIfRead access v
+  pub settled : is_settled ≡ true → IsSettledFile v
   pub opened : v.opened access
 
 -- A file that is ready: it has its name, its lock and a number above those of the standard streams, and a stop leaves

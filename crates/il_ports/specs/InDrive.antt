@@ -29,7 +29,7 @@ size_is Made tape size some = size
 
 -- ---- the image in the drive
 
--- the place behind a first image, whose name is that or not
+-- the place after a first image, whose name is that or not
 abbrev pub behind : Bool → Option ℕ → Option ℕ
 behind first place = if first then Some 0 else option_map suc place
 

@@ -1,4 +1,5 @@
 pub mod Taking
+pub mod Writing
 pub mod Sizes
 pub mod Inserting
 pub mod Trouble

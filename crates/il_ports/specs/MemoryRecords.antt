@@ -38,7 +38,7 @@ state_of r = record {
   sound = r.sound;
 }
 
--- the counts and the soundness of a sound store behind a read or a write
+-- the counts and the soundness of a sound store after a read or a write
 abbrev pub counted : {T : Type 0} → RecordsState → Result T Trouble → RecordsState
 counted state answer = record state {
   calls = state.calls + 1;
@@ -53,7 +53,7 @@ abbrev pub tried : {T E : Type 0} → ℕ → Result T E → ℕ
 tried done (Ok _) = done
 tried done (Err _) = done + 1
 
--- the same behind a run, of which so many records are done
+-- the same after a run, of which so many records are done
 abbrev pub counted_run : {T : Type 0} → ℕ → RecordsState → Result T Trouble → RecordsState
 counted_run done state answer = record state {
   calls = state.calls + tried done answer;
@@ -63,12 +63,12 @@ counted_run done state answer = record state {
   sound = answers_ok answer;
 }
 
--- the records behind a write: one that fails changes none
+-- the records after a write: one that fails changes none
 abbrev pub records_after : {T E : Type 0} → ℕ → List ℕ → Tape → Result T E → Tape
 records_after n bytes records (Ok _) = set records n bytes
 records_after n bytes records (Err _) = records
 
--- the writes behind a write: one that fails is not kept
+-- the writes after a write: one that fails is not kept
 abbrev pub writes_after : {T E : Type 0} → ℕ → List ℕ → Changes → Result T E → Changes
 writes_after n bytes writes (Ok _) = writes ++ (n, bytes) ∷ []
 writes_after n bytes writes (Err _) = writes
@@ -90,13 +90,13 @@ pub record RunEnds {T : Type 0} (count done : ℕ) (state : RecordsState) (answe
   pub passed : (i : ℕ) → i < done → failing (state.calls + (i + 1)) state.fails ≡ None
   pub ended : EndsAs count done (failing (state.calls + (done + 1)) state.fails) answer
 
--- a run of reads behind which the store is as it was but for its counts
+-- a run of reads after which the store is as it was but for its counts
 pub record RanReads {T : Type 0} (count : ℕ) (old new : RecordsState) (answer : Result T Trouble) : Type 0 where
   pub done : ℕ
   pub ends : RunEnds count done old answer
   pub state : new ≡ counted_run done old answer
 
--- the state behind a run of writes, of which so many pieces are written
+-- the state after a run of writes, of which so many pieces are written
 abbrev pub written_run : {T : Type 0} → ℕ → List (List ℕ) → ℕ → RecordsState → Result T Trouble → RecordsState
 written_run first pieces done state answer = record (counted_run done state answer) {
   records = changed (placed first (take done pieces)) state.records;

@@ -74,15 +74,9 @@ pub record Bears (name : List ℕ) (shelf : Option Shelf) (content : Shelf → O
   pub told : is_some v.seen ≡ is_some shelf
   pub seen : (s : Shelf) → shelf ≡ Some s → v.seen ≡ content s
 
--- If a file is opened only to be read, the disk has what it reads as.
-abbrev pub SettledIfRead : Access → FileView → Type 0
-SettledIfRead Change v = Unit {0}
-SettledIfRead Read v = IsSettledFile v
-
 -- the image of that name, opened for that
 pub record IsOpenedFor (name : List ℕ) (access : Access) (shelf : Option Shelf) (v : FileView) : Type 0 where
   pub bears : Bears name shelf (image_of name) v
-  pub settled : SettledIfRead access v
   pub opened : v.opened access
 
 -- the error says that the image may not be changed: by permission, or since its file system is only read
@@ -96,9 +90,16 @@ pub record OpenFails (kind : ErrorKind) (name : List ℕ) (access : Access) (v w
   pub denied : access ≡ Change → is_denial kind ≡ true → w.denied name
   pub failed : (access ≡ Read) ⊎ (is_denial kind ≡ false) → Rose (v.failures Opens) (w.failures Opens)
 
--- the file of the image of that name; errors have a kind
+-- The file of the image of that name. The disk has what it reads as, if it is opened only to be read and the system has
+-- refused to open it to change it.
+pub record OpenGives (name : List ℕ) (access : Access) (v w : ImagesView) (f : FileView) : Type 0 where
+  pub opened : IsOpenedFor name access w.shelf f
+  pub settled : access ≡ Read → v.denied name → IsSettledFile f
+  pub unfailed : w.failures Opens ≡ v.failures Opens
+
+-- errors have a kind
 abbrev pub OpenAnswers : {F E : Type 0} → (F → FileView) → (E → ErrorKind) → List ℕ → Access → ImagesView → ImagesView → Result F E → Type 0
-OpenAnswers view kind name access v w (Ok f) = IsOpenedFor name access w.shelf (view f) × (w.failures Opens ≡ v.failures Opens)
+OpenAnswers view kind name access v w (Ok f) = OpenGives name access v w (view f)
 OpenAnswers view kind name access v w (Err e) = OpenFails (kind e) name access v w
 
 pub record Opened {F E : Type 0} (view : F → FileView) (kind : E → ErrorKind) (name : List ℕ) (access : Access) (v w : ImagesView) (answer : Result F E) : Type 0 where

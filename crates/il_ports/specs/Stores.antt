@@ -22,7 +22,7 @@ pub record RecordsView (S : Type 0) : Type 1 where
   pub sound : Bool
   -- how many records may still be read and written; a resume counts as one
   pub calls_left : ℕ
-  -- how many there are at least behind each emptying of the log
+  -- how many there are at least after each emptying of the log
   pub room : ℕ
   -- how many calls have failed with each trouble, or more: these counts never fall
   pub frame_faults : ℕ

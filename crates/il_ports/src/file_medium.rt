@@ -1,9 +1,10 @@
-ghost use Rattle.std.specs.Prelude.{◌≡◌, IfOk, OnOk, OnErr, None, Some, false};
+ghost use Rattle.std.specs.Prelude.{◌≡◌, ◌≢◌, IfOk, OnOk, OnErr, None, Some, false};
 ghost use Rattle.lif_model.specs.Causes.{Rose};
 ghost use Rattle.lif_model.specs.Shelf.{Shelf, image_of, image_bytes};
 ghost use Rattle.il_ports.specs.Inserting.{records_made};
 ghost use Rattle.il_ports.specs.NamedImages.{ImagesGoOn, IsOpenedFor, MakesNone, Opens};
 ghost use Rattle.il_ports.specs.FileDrives.{IsFoundFile, FoundFor, UsesAs};
+ghost use Rattle.il_ports.specs.Files.{IsSettledFile};
 ghost use Rattle.il_ports.specs.FindingFiles.{Claims, LaidOut, LayingFails, Claimable, WasMade, MakeFails, InsertFails};
 ghost use Rattle.il_ports.specs.Sizes.{records_of_size};
 ghost use Rattle.il_ports.specs.declared.images.Naming.{Naming};
@@ -20,11 +21,11 @@ use crate::tape_file::{Access, TapeFile};
 use std::io::{self, ErrorKind};
 use std::marker::Model;
 
-/// Claims a file that was opened, sets it apart from the standard streams and measures it, in this order. If the file
-/// may be changed, it then waits until the disk has all that an earlier program wrote to the file. It returns the
-/// length in bytes.
-fn take<F: TapeFile>(file: &mut F, access: Access) -> io::Result<u64>
-    requires sound { Claimable access (F.view file.old) }
+/// Claims a file that was opened, sets it apart from the standard streams and measures it, in this order. Then it waits
+/// until the disk has all that an earlier program wrote to the file, unless that is known. It returns the length in
+/// bytes.
+fn take<F: TapeFile>(file: &mut F, access: Access, is_settled: bool) -> io::Result<u64>
+    requires sound { Claimable access is_settled (F.view file.old) }
     ensures { Claims access (F.view file.old) (F.view file.new) result }
 {
     if !file.claim(access) {
@@ -32,7 +33,7 @@ fn take<F: TapeFile>(file: &mut F, access: Access) -> io::Result<u64>
     }
     file.apart()?;
     let length = file.len()?;
-    if access == Access::Change {
+    if !is_settled {
         file.settle()?;
     }
     Ok(length)
@@ -84,7 +85,8 @@ fn make<F: TapeFile + Drop, I: Images<F>>(images: &mut I, name: &str, size: Size
     }
 }
 
-/// Opens an image for that access. If it was to be changed and may not be, it is opened only to be read.
+/// Opens an image for that access. If it was to be changed and may not be, it is opened only to be read, and the disk
+/// has what it reads as.
 fn open<F: TapeFile, I: Images<F>>(
     images: &mut I,
     name: &str,
@@ -94,6 +96,7 @@ fn open<F: TapeFile, I: Images<F>>(
     ensures goes_on { ImagesGoOn (I.view images.old) (I.view images.new) }
     ensures unmade { MakesNone (I.view images.old) (I.view images.new) }
     ensures did { IfOk result (λ opened. IsOpenedFor name.now opened.1 (I.view images.new).shelf (F.view opened.0)) }
+    ensures settled { IfOk result (λ opened. opened.1 ≢ access → IsSettledFile (F.view opened.0)) }
     ensures used { IfOk result (λ opened. UsesAs access ((I.view images.new).denied name.now) opened.1) }
     ensures fails { OnErr result (Rose ((I.view images.old).failures Opens) ((I.view images.new).failures Opens)) }
 {
@@ -131,10 +134,10 @@ fn find_file<F: TapeFile + Drop, I: Images<F>>(
     ensures used { IfOk result (λ found. FoundFor name.now access (I.view images.old) (I.view images.new) found) }
     ensures fails { OnErr result (InsertFails F.view name.now (records_made new) access (I.view images.old) (I.view images.new)) }
 {
-    let (mut file, access) = open(images, name, access)?;
-    let length = take(&mut file, access)?;
+    let (mut file, used) = open(images, name, access)?;
+    let length = take(&mut file, used, used != access)?;
     match Size::of(length) {
-        Some(size) => Ok(Found::Tape(file, size, access)),
+        Some(size) => Ok(Found::Tape(file, size, used)),
         None => Ok(Found::BadSize(length)),
     }
 }

@@ -36,8 +36,8 @@ pub trait Images<F: TapeFile> {
     fn look(&mut self, name: &str) -> io::Result<Look>
         ensures { Looked name.now (view self.old) (view self.new) result };
 
-    /// Opens the image of that name, which a look has found. If it is opened only to be read, the disk has what it
-    /// reads as.
+    /// Opens the image of that name, which a look has found. If the system refused to open it to change it, and it is
+    /// opened only to be read, the disk has what it reads as.
     fn open(&mut self, name: &str, access: Access) -> io::Result<F>
         requires { (view self.old).was_found name.now look.File }
         ensures { Opened F.view error_kind name.now access (view self.old) (view self.new) result };

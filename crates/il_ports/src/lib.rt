@@ -28,5 +28,5 @@ pub use memory_medium::MemoryMedium;
 pub use memory_records::MemoryRecords;
 pub use memory_stream::{MemorySink, MemorySource};
 pub use records::{Records, Trouble};
-pub use stream::{Failed, Sink, Source};
+pub use stream::{Failed, Sink, Source, write_all};
 pub use tape_file::{Access, TapeFile};

@@ -66,7 +66,7 @@ fn offered<'a>(images: &'a [(String, Vec<u8>)], name: &str, new: New) -> Offer<'
     }
 }
 
-/// What record n holds behind a write at that place.
+/// What record n holds after a write at that place.
 fn behind_write<'a>(n: usize, place: u16, new: &'a [u8; 256], old: &'a [u8; 256]) -> &'a [u8; 256]
     ensures { result.now ≡ (if place == n then new.now else old.now) }
 {
@@ -206,7 +206,7 @@ impl MemoryMedium {
         &self.history
     }
 
-    /// Fills `into` with the tape as it was behind the first `writes` writes since it was inserted. With `torn` the
+    /// Fills `into` with the tape as it was after the first `writes` writes since it was inserted. With `torn` the
     /// record of the next write holds these bytes: so a power stop within that write may leave it. A tape is in the
     /// drive, so many writes were made, with `torn` one more, and `into` has as many bytes as the tape.
     pub fn image_at(&self, writes: u64, torn: Option<&[u8; 256]>, into: &mut [u8])
@@ -221,7 +221,7 @@ impl MemoryMedium {
         }
     }
 
-    /// The record as it was behind these writes, or within the next one.
+    /// The record as it was after these writes, or within the next one.
     fn record_at<'a>(
         &'a self,
         n: usize,

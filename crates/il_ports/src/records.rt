@@ -39,7 +39,7 @@ pub trait Records {
         ensures { result ≡ (view self.now).calls_left };
 
     /// Empties the log that the store keeps, if it keeps one, and with it the list of reads and writes. Then at least
-    /// as many records may be read and written as before, and as behind each earlier emptying.
+    /// as many records may be read and written as before, and as after each earlier emptying.
     fn begin(&mut self)
         requires { (view self.old).valid }
         ensures { Begun (view self.old) (view self.new) };

@@ -3,6 +3,7 @@ ghost use Rattle.std.specs.Io.{ReadsAtMost};
 ghost use Rattle.std.specs.Io.KnownBytes.{ReadConsumes, WriteAppends};
 ghost use Rattle.lif_model.specs.Causes.{HasCause, Rose, next_count};
 ghost use Rattle.il_ports.specs.Taking.{TakesSome};
+ghost use Rattle.il_ports.specs.Writing.{WritesAll};
 
 /// The one fault of a port. The port has counted it.
 #[derive(Clone, Copy, Debug, PartialEq, Eq)]
@@ -47,4 +48,17 @@ pub trait Sink {
         ensures bound { TakesSome result piece.now }
         ensures bytes { WriteAppends (written self.old) (written self.new) result piece.now }
         ensures cause { HasCause (faults self.old) (faults self.new) result };
+}
+
+/// Writes all of the bytes, in as many pieces as the sink takes. After a fault a front of them was written.
+pub fn write_all<K: Sink>(out: &mut K, bytes: &[u8]) -> Result<(), Failed>
+    ensures bytes { WritesAll (K.written out.old) (K.written out.new) bytes.now result }
+    ensures cause { HasCause (K.faults out.old) (K.faults out.new) result }
+{
+    let mut from = 0;
+    'pieces: while from < bytes.len() {
+        let count = out.write(&bytes[from..])?;
+        from += count;
+    }
+    Ok(())
 }

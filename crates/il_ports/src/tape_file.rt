@@ -69,7 +69,7 @@ pub trait TapeFile {
 
     /// Waits until all that was written, also by an earlier program, and the length of the file are on the disk.
     fn settle(&mut self) -> io::Result<()>
-        requires held { (view self.old).held Change }
+        requires locked { HasLock (view self.old) }
         requires sound { (view self.old).broken ≡ false }
         ensures { Settled (view self.old) (view self.new) result };
 

@@ -61,7 +61,7 @@ readied view n r s low done stays =
 
 -- ---- broken off
 
--- the exchanges of an addressing that was broken off behind n entries
+-- the exchanges of an addressing that was broken off after n entries
 record CutPieces (l : Loop) (n : ℕ) (b : Break) : Type 0 where
   pieces : List Piece
   entries : all_entries pieces ≡ cut_at (addressing l.devices) n b

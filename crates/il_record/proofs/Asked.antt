@@ -203,7 +203,7 @@ module _ {M : Type 0} (view : M → MediumView) where
   ran_length (f ∷ fs) (out ∷ outs) v w ran = ap suc (ran_length fs outs ran.0 w ran.2)
   ran_length _ _ v w ran = absurd ran
 
-  -- Before the start message, from it to the last echo, and behind that; in the middle part these own frames went out.
+  -- Before the start message, from it to the last echo, and after that; in the middle part these own frames went out.
   pub record RanAsked (before during behind said : List Frame) (v w : DriveView M) : Type 0 where
     pub outs_before : List Out
     pub outs_during : List Out
@@ -234,7 +234,7 @@ module _ {M : Type 0} (view : M → MediumView) where
         says = ap own_frames at_second.0 ∙ says;
       }
 
-  -- NRD goes on, and the drive answers the frame behind it
+  -- NRD goes on, and the drive answers the frame after it
   nrd_passes : (end : Frame) (outs : List Out) (v w : DriveView M) → Ran view v (nrd ∷ end ∷ []) outs w → (out : Out) × (outs ≡ Pass nrd ∷ out ∷ [])
   nrd_passes end [] v w ran = absurd ran
   nrd_passes end (a ∷ []) v w ran = absurd ran.2
@@ -243,7 +243,7 @@ module _ {M : Type 0} (view : M → MediumView) where
       let went = goes_by view (msg.Nrd ∷ []) (nrd ∷ []) (a ∷ []) v ran.0 (refl, tt) refl (ran.0, ran.1, refl) in
       (b, λ i. all_pass (msg.Nrd ∷ []) (nrd ∷ []) (a ∷ []) refl went.answers i ++ b ∷ [])
 
-  -- The drive was stopped: it sent these frames one behind the other, let NRD pass, and sent ETO.
+  -- The drive was stopped: it sent these frames one after the other, let NRD pass, and sent ETO.
   pub stop_answers : (s : Start) (ds : List Echo) (last : Frame) (echoes : List Frame) (end : Frame) (outs : List Out) (v w : DriveView M) → length echoes ≡ length ds
       → own_frames outs ≡ (frames_of ds ++ last ∷ []) ++ eto ∷ [] → Ran view v ((start_frame s ∷ echoes) ++ nrd ∷ end ∷ []) outs w
       → outs ≡ map (λ (g : Frame). Source g) (frames_of ds ++ last ∷ []) ++ Pass nrd ∷ Source eto ∷ []

@@ -1,4 +1,4 @@
--- Exchanges that are those asked for, one call behind the other.
+-- Exchanges that are those asked for, one call after the other.
 use Rattle.std.proofs.Common.{◌≡◌, ◌∙◌, ◌≤◌, ◌+◌, ◌++◌, inl, inr, ℕ, zero, suc, Bool, true, false, List, [], ◌∷◌, None, refl, sym, ap, subst, arith, append-nil, append_assoc}
 use Rattle.std.proofs.lemmas.Bool.{cases_lt}
 use Rattle.il_ports.specs.Media.{MediumView}
@@ -19,7 +19,7 @@ asked_then whole (a ∷ asks) more (WholeOne x ∷ ps) qs first last = (first.0,
 asked_then whole (a ∷ asks) more (Cut x n b ∷ []) qs first last = absurd first
 asked_then whole (a ∷ asks) more (Cut x n b ∷ p ∷ ps) qs first last = absurd first
 
--- what was asked for behind a broken exchange did not come
+-- what was asked for after a broken exchange did not come
 pub asked_less : (asks more : List Ask) (ps : List Piece) → Asked asks ps false → Asked (asks ++ more) ps false
 asked_less [] more [] first = absurd first
 asked_less [] more (p ∷ ps) first = absurd first
@@ -51,7 +51,7 @@ module _ {M : Type 0} (view : M → MediumView) where
   pub asked_made : (x : Exchange) (r s : RingView M) → Made view x r s → named_by (loop_of r) (WholeOne x) ≡ None → (view s.drive.medium).tape ≡ (view r.drive.medium).tape → CameAsked view true (ask_of x ∷ []) r s
   asked_made x r s made none same = record { units = made_came view x r s made none same; asked = (refl, tt) }
 
-  -- one that broke off, with what was to come behind it
+  -- one that broke off, with what was to come after it
   pub asked_broken : (ask : Ask) (more : List Ask) (x : Exchange) (r s : RingView M) → IsFirstOf (ask_of x) ask → BrokenOff view x r s → (view s.drive.medium).tape ≡ (view r.drive.medium).tape → CameAsked view false (ask ∷ more) r s
   asked_broken ask more x r s first broken same = record { units = broken_came view x r s broken same; asked = first }
 
@@ -67,7 +67,7 @@ module _ {M : Type 0} (view : M → MediumView) where
   pub asked_in_part : (asks more : List Ask) (r s : RingView M) → CameAsked view false asks r s → CameAsked view false (asks ++ more) r s
   asked_in_part asks more r s came = record { units = came.units; asked = asked_less asks more came.units.came.pieces came.asked }
 
-  -- a call that broke off at the address behind the first i
+  -- a call that broke off at the address after the first i
   pub asked_up_to : (asks : ℕ → List Ask) (i n : ℕ) (more : List Ask) (r m s : RingView M) → i + 1 ≤ n → IsIdle r → CameAsked view true (up_to asks i) r m → CameAsked view false (asks (i + 1)) m s → CameAsked view false (up_to asks n ++ more) r s
   asked_up_to asks i n more r m s within idle first last =
       let front = up_to_front asks (i + 1) n within in

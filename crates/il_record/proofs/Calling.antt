@@ -30,7 +30,7 @@ use Rattle.il_record.proofs.StoreStarts.{count_of, sound_and, sound_none, still_
 pub stands : {M : Type 0} (ready : Bool) (r : RingView M) (sound : Bool) (log : Since) → ready ≡ true → StandsBy ready r sound log → StandsBy true r sound log
 stands ready r sound log is so = subst (λ b. StandsBy b r sound log) is so
 
--- ---- what exchanges leave that move no record, whole or broken off, where the log stood so and stands so behind them
+-- ---- what exchanges leave that move no record, whole or broken off, where the log stood so and stands so after them
 
 pub record Mild {M : Type 0} (view : M → MediumView) (whole : Bool) (log new : Since) (r s : RingView M) : Type 0 where
   pub units : CameUnits view whole [] r s

@@ -1,4 +1,4 @@
--- What exchanges made, one call behind the other, and exchanges of which none begins a unit of records.
+-- What exchanges made, one call after the other, and exchanges of which none begins a unit of records.
 use Rattle.std.proofs.Common.{◌≡◌, ◌∙◌, ◌++◌, ◌&&◌, ◌||◌, ℕ, Bool, true, false, List, [], ◌∷◌, Option, Some, None, refl, sym, ap, ap₂, subst}
 use Rattle.std.specs.Prelude.{is_some, option_and_then, option_to_list}
 use Rattle.il_ports.specs.Media.{MediumView}
@@ -58,7 +58,7 @@ module _ {M : Type 0} (view : M → MediumView) where
       } in
       came_still view true [] [] r r talked refl refl (λ t. refl) refl
 
-  -- one call behind the other
+  -- one call after the other
   abbrev pub came_then : (whole : Bool) (us ws : List RecordUnit) (r m s : RingView M) → IsIdle r → CameUnits view true us r m → CameUnits view whole ws m s → CameUnits view whole (us ++ ws) r s
   came_then whole us ws r m s idle first more =
       let ps = first.came.pieces in

@@ -1,4 +1,4 @@
--- Commands one behind the other that clear the drive, and those that address the loop: no records in the log, none on the tape.
+-- Commands one after the other that clear the drive, and those that address the loop: no records in the log, none on the tape.
 use Rattle.std.proofs.Common.{◌≡◌, ◌∙◌, ◌≤◌, ◌++◌, ⊎_elim, ℕ, zero, suc, true, false, List, [], ◌∷◌, Some, length, refl, sym, ap, subst, arith}
 use Rattle.std.specs.List.{list_all}
 use Rattle.il_frames.specs.declared.frame.Class.TheVariants as class

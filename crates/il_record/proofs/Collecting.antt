@@ -42,7 +42,7 @@ use Rattle.il_record.proofs.Readings.{idle_mute}
 use Rattle.il_record.proofs.Saying.{lad_mild}
 use Rattle.il_record.proofs.Used.{broken_used, command_not_used, command_used}
 
--- ---- commands and the poll, one behind the other, from UNL on
+-- ---- commands and the poll, one after the other, from UNL on
 
 pub record Begun {M : Type 0} (view : M → MediumView) (n : ℕ) (asks : List Ask) (r s : RingView M) : Type 0 where
   pub came : CameAsked view true asks r s
@@ -225,7 +225,7 @@ module _ {M : Type 0} (view : M → MediumView) (r : RingView M) (idle : IsIdle 
       subst (λ g. PollBroke view 6 (collect_asks g) r s) told
       (next_broken 3 (AskCommand unl ∷ AskIdentify g ∷ []) [] poll_unconfigure u s refl refl so (subst (λ f. BrokenOff view (Command f) u s) is broken) (ppu_polls u s (subst (λ f. ObeyedInPart (message_of f) u s) is part)))
 
--- ---- place behind place
+-- ---- place after place
 
 left_placed : (i k : ℕ) (c d : DeviceState) → PlacedTo i k c d → PollsOn k c d
 left_placed i k c d placed = record { place = λ may. by (nat_le k i) placed.place may; nothing = placed.nothing; wants = placed.wants }
@@ -258,7 +258,7 @@ none_placed k (d ∷ ds) some =
     let behind : nat_le k 0 ≡ false = lt-leb k 0 (omega (arith, some)) in
     (record { place = sym (ap (λ b. if b then poll_place k else d.assignment) behind); nothing = record { heard = refl; heard_count = refl; room = refl; accessory = refl }; wants = refl }, none_placed (k + 1) ds (omega (arith, some)))
 
--- the poll's frame behind devices of which each has its place
+-- the poll's frame after devices of which each has its place
 along_placed : (i n k : ℕ) (ds es : List DeviceState) (f : Frame) → i ≡ min n 8 → k + length ds ≤ n + 1 → EachBecomes (PlacedTo i) k ds es → Each MayPoll k ds → identified_along es f ≡ polled_along k ds f
 along_placed i n k [] [] f most within placed may = refl
 along_placed i n k (d ∷ ds) (e ∷ es) f most within placed may =
@@ -308,7 +308,7 @@ module _ {M : Type 0} (view : M → MediumView) (r : RingView M) (idle : IsIdle 
         room = omega (arith, before, spent);
       }
 
-  -- broken off behind the first i, as these asks
+  -- broken off after the first i, as these asks
   pub broke_behind : (i n most : ℕ) (asks : List Ask) (m s : RingView M) → 6 * i + n ≤ most → AssignedSo view i r m → PollBroke view n asks m s → PollBroke view most (up_to place_asks i ++ asks) r s
   broke_behind i n most asks m s few so broke =
       let before = so.room in

@@ -1,4 +1,4 @@
--- Commands of a poll: what they leave of the drive, and which places in the poll devices have behind them.
+-- Commands of a poll: what they leave of the drive, and which places in the poll devices have after them.
 use Rattle.std.proofs.Common.{◌≡◌, ◌∙◌, ◌≤◌, ◌<◌, ◌+◌, ◌-◌, ◌/◌, ◌%◌, ◌&&◌, ◌==◌, inl, inr, ⊎_elim, ℕ, zero, suc, true, false, not, List, [], ◌∷◌, Some, None, length, refl, sym, ap, subst, arith, nat_le}
 use Rattle.std.specs.Prelude.{if◌then◌else◌}
 use Rattle.std.specs.List.{list_all}
@@ -26,7 +26,7 @@ use Rattle.il_ring.specs.Rings.{RingView, devices_of, drive_party, spare_of}
 use Rattle.il_control.specs.Brought.{is_auto_address}
 use Rattle.il_control.specs.Calls.{AllStay, BrokenOff, Made, Obeyed, ObeyedInPart, Stays}
 use Rattle.il_control.proofs.Assigning.{MayHavePlace, message_of-ppe}
-use Rattle.il_control.proofs.Calls.{hears_then, room_behind}
+use Rattle.il_control.proofs.Calls.{hears_then, room_after}
 use Rattle.il_record.specs.Polls.{PollsOn, Released}
 use Rattle.il_drive.proofs.Mild.{IsMild, StaysMild, is_mild, mild_ran, unl_ran}
 use Rattle.il_record.proofs.MildCame.{UnlFirst, brought_mild, cut_mild, mild_entry, mild_frame, unl_cut}
@@ -75,10 +75,10 @@ module _ {M : Type 0} (view : M → MediumView) (r s : RingView M) where
 
   -- the room that a command leaves
   pub command_room : (f : Frame) → 2 ≤ spare_of r → Made view (Command f) r s → spare_of r ≤ spare_of s + 2
-  command_room f room made = let left = room_behind view r s (commanded 0 f) (spare_of r - 2) made.whole (omega (arith, room)) in omega (arith, left)
+  command_room f room made = let left = room_after view r s (commanded 0 f) (spare_of r - 2) made.whole (omega (arith, room)) in omega (arith, left)
 
   pub identify_room : (f : Frame) → 1 ≤ spare_of r → Made view (Identify f) r s → spare_of r ≤ spare_of s + 1
-  identify_room f room made = let left = room_behind view r s (entries_of 0 (Identify f)) (spare_of r - 1) made.whole (omega (arith, room)) in omega (arith, left)
+  identify_room f room made = let left = room_after view r s (entries_of 0 (Identify f)) (spare_of r - 1) made.whole (omega (arith, room)) in omega (arith, left)
 
 -- ---- one device in a poll
 

@@ -33,7 +33,7 @@ abbrev ComeExactly : ℕ → List Frame → Type 0
 ComeExactly q [] = Unit {0}
 ComeExactly q (f ∷ fs) = ((g : Frame) → MayComeAs q f g → g ≡ f) × ComeExactly q fs
 
--- It broke off among them; or all of them came, and it broke off behind them.
+-- It broke off among them; or all of them came, and it broke off after them.
 data CutFront (k q m : ℕ) (fs : List Frame) (rest : List Entry) (gs : List Frame) : Type 0 where
   Among : (j : ℕ) → m < length fs → gs ≡ take j fs → CutFront k q m fs rest gs
   BehindThem : (n : ℕ) (hs : List Frame) → m ≡ length fs + n → gs ≡ fs ++ hs → CutBrought k q rest n hs → CutFront k q m fs rest gs
@@ -101,7 +101,7 @@ front_exact q a n low exact other =
       (handshake, ((λ g comes. comes.other (ap is_exact (message_of-lad a low)) (ap is_auto_address (message_of-lad a low))), (handshake, ((λ g comes. comes.other exact other), (handshake, tt))))),
     )
 
--- It broke off among the commands; or these data frames came behind them.
+-- It broke off among the commands; or these data frames came after them.
 pub data CutSend (m a n : ℕ) (ds : List Echo) (gs : List Frame) : Type 0 where
   InFront : (j : ℕ) → m < 6 → gs ≡ take j (send_front a n) → CutSend m a n ds gs
   InData : (i : ℕ) (fs : List Frame) → m ≡ 6 + i → gs ≡ send_front a n ++ fs → CutData i ds fs → CutSend m a n ds gs

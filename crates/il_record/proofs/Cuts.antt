@@ -118,7 +118,7 @@ number_none : (number : Option ℕ) → IfSome number (λ n. no_listener (ddt n)
 number_none None low rest all = all
 number_none (Some n) low rest all = and_from (no_listener (ddt n)) _ low all
 
--- behind UNL
+-- after UNL
 behind_none : (a : ℕ) (number : Option ℕ) (s : Start) (answer : Answer) → a ≤ 30 → IfSome number (λ n. no_listener (ddt n) ≡ true) → is_answer 0 answer ≡ true
     → list_all (λ e. no_listener e.frame) (returned 0 rfc ∷ commanded 0 (tad a) ++ (numbered 0 ddt number ++ (answer_entries 0 (start_frame s) answer ++ commanded 0 unt))) ≡ true
 behind_none a number s answer low small legal = and_from (no_listener (tad a)) _ (tad_none a low) (number_none number small _ (answer_none s answer legal))
@@ -153,7 +153,7 @@ from_drive q p (d ∷ ds) rest near all = and_from (is_from_here q (echoed p d))
     here true = refl
     here false = le-leb q p near
 
--- no device took the start message, or the drive did or one behind it
+-- no device took the start message, or the drive did or one after it
 answer_near : (q : ℕ) (s : Start) (answer : Answer) → IfSome (talker_of answer) (λ p. q ≤ p) → list_all (is_from_here q) (answer_entries 0 (start_frame s) answer ++ commanded 0 unt) ≡ true
 answer_near q s NotTaken near = refl
 answer_near q s (ToItsEnd p ds) near = subst (λ es. list_all (is_from_here q) es ≡ true) (sym (append_assoc (map (echoed p) ds) (entry p eto (outcome.Taken 0) ∷ []) (commanded 0 unt))) (from_drive q p ds (entry p eto (outcome.Taken 0) ∷ commanded 0 unt) near (from_drive q p (record { sent = eto; back = eto } ∷ []) (commanded 0 unt) near refl))

@@ -1,4 +1,4 @@
--- What devices heard, told by the log too, of exchanges one behind the other.
+-- What devices heard, told by the log too, of exchanges one after the other.
 use Rattle.std.proofs.Common.{◌≡◌, ◌≢◌, ◌∙◌, ◌≤◌, ◌++◌, ◌&&◌, ◌+◌, ℕ, true, List, [], ◌∷◌, Option, Some, None, length, refl, sym, ap, ap₂, arith, append-nil, append_assoc}
 use Rattle.std.specs.List.{list_all}
 use Rattle.std.proofs.lemmas.Bool.{and_parts, and_from}
@@ -31,14 +31,14 @@ NoneBut a r entries = (k : ℕ) → 1 ≤ k → k ≤ length (devices_of r) → 
 heard_adds : {M : Type 0} (view : M → MediumView) (a : ℕ) (from to : Option ℕ) (entries : List Entry) (r s : RingView M) → Adds view r from entries to s → OthersUnheard a 1 (devices_of r) (devices_of s) → NoneBut a r entries → OnlyHeard a r s
 heard_adds view a from to entries r s adds others none = record { unheard = others; entries = entries; log = adds.log; roles = adds.roles; size = adds.size; by_log = none }
 
--- what a party heard of entries behind others
+-- what a party heard of entries after others
 heard_behind : {M : Type 0} (k : ℕ) (r m : RingView M) (first more : List Entry) → roles_of (devices_of m) ≡ roles_after (roles_of (devices_of r)) first → length (devices_of m) ≡ length (devices_of r)
     → heard_on r k (first ++ more) ≡ heard_on r k first ++ heard_on m k more
 heard_behind k r m first more roles size =
     heard_by-append (length (devices_of r)) k (roles_of (devices_of r)) first more
     ∙ ap₂ (λ (n : ℕ) (rs : List Roles). heard_on r k first ++ heard_by n k rs more) (sym size) (sym roles)
 
--- ---- one behind the other
+-- ---- one after the other
 
 pub heard_same : {M : Type 0} (a : ℕ) (r : RingView M) → OnlyHeard a r r
 heard_same a r = record { unheard = others_same a 1 (devices_of r); entries = []; log = sym (append-nil r.books.log); roles = refl; size = refl; by_log = λ k some here other. refl }

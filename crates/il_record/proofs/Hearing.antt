@@ -181,7 +181,7 @@ number_makes_none : (number : Option ℕ) → is_number number ≡ true → list
 number_makes_none None legal = refl
 number_makes_none (Some n) legal = and_from _ true (agree_below_at (λ b. makes_none (returned 0 (ddt b))) (λ b. true) 32 n refl (ltb-true n 32 legal)) refl
 
--- no party hears anything of a receive: behind UNL nobody listens, and none is told to
+-- no party hears anything of a receive: after UNL nobody listens, and none is told to
 pub heard_by-receive : (k party a : ℕ) (rs : List Roles) (number : Option ℕ) (s : Start) (answer : Answer) → is_address a ≡ true → is_number number ≡ true → is_answer 0 answer ≡ true → heard_by k party rs (entries_of 0 (Receive a number s answer)) ≡ []
 heard_by-receive k party a rs number s answer low small legal =
     let tail : List Entry = answer_entries 0 (start_frame s) answer ++ commanded 0 unt in

@@ -46,7 +46,7 @@ module _ {M S : Type 0} (view : M → MediumView) (seen : S → RingView M) (p q
   before : StandsBy true old.ring old.sound old.since
   before = stands old.ready old.ring old.sound old.since ready valid
 
-  -- behind a lend, whole or broken off
+  -- after a lend, whole or broken off
   lent : (whole : Bool) → Lends a limit whole old.ring s → s.drive.medium ≡ old.ring.drive.medium → (now : Bool) → StandsBy now s false since.Mended
       → LeavesLent ((2 * limit + 309) / 300) (view_of view seen p old) (view_of view seen q (record old { ring = s; ready = now; sound = false; since = since.Mended }))
   lent whole lends medium now stands_now =

@@ -1,4 +1,4 @@
--- What devices heard of bytes that were sent, byte behind byte.
+-- What devices heard of bytes that were sent, byte after byte.
 use Rattle.std.proofs.Common.{◌≡◌, ◌∙◌, ◌+◌, ◌++◌, ◌==◌, ℕ, zero, suc, Bool, true, false, List, [], ◌∷◌, length, take, refl, sym, ap, subst, arith, append-nil}
 use Rattle.std.specs.Prelude.{if◌then◌else◌, MatchBool}
 use Rattle.il_device.specs.State.{DeviceState, risen, risen_by}

@@ -26,7 +26,7 @@ use Rattle.loop_model.proofs.UnitLaws.{entries_of-receive}
 use Rattle.il_ring.specs.Journeys.{is_exact, is_identify, is_identify_class}
 use Rattle.il_ring.specs.Rings.{RingView, devices_of, drive_party}
 use Rattle.il_control.specs.Brought.{ComesAs, MayComeAs, Brought, BroughtIf, CutBrought, is_auto_address}
-use Rattle.il_control.specs.Receives.{Received, NotReceived, IsSpoken, AllSpoken, StandsBehind, talker_of}
+use Rattle.il_control.specs.Receives.{Received, NotReceived, IsSpoken, AllSpoken, LiesAfter, talker_of}
 use Rattle.il_record.specs.LoopCalls.{LeavesDrive}
 use Rattle.il_record.proofs.Asked.{front_plain}
 use Rattle.il_record.proofs.Cuts.{comes_may, receive_near}
@@ -193,7 +193,7 @@ module _ (what : Start) where
 
 -- ---- a receive
 
--- the talker is the drive or stands behind it, or it stands before it
+-- the talker is the drive or comes after it, or it stands before it
 where_talker : (q : ℕ) (answer : Answer) → IfSome (talker_of answer) (λ p. q ≤ p) ⊎ (IfSome (talker_of answer) (λ p. p < q) × IsSome (talker_of answer))
 where_talker q NotTaken = inl tt
 where_talker q (ToItsEnd p ds) = elim (cases_lt p q) [ inl lt ↦ inr (lt, refl) | inr ge ↦ inl ge ]
@@ -223,7 +223,7 @@ module _ (what : Start) (s : StartMessage) (asks : mild_frame_for what (start_fr
   behind_mild : (a : ℕ) (answer : Answer) → a ≤ 30 → is_answer 0 answer ≡ true → list_all (mild_entry_for what) (behind_unl a answer) ≡ true
   behind_mild a answer low legal = and_from (mild_frame_for what (tad a)) _ (tad_mild a low) (answer_mild answer legal)
 
-  -- behind the talker: the commands in front, and what follows them
+  -- after the talker: the commands in front, and what follows them
   far_first : (k q a : ℕ) (came before rest : List Frame) → a ≤ 30 → came ≡ before ++ rest → Brought k q (receive_front 0 a None) before → AllMildFor what rest → UnlFirstFor what came
   far_first k q a came before rest low all first mild =
       let front = front_plain k q a before first in
@@ -244,10 +244,10 @@ module _ (what : Start) (s : StartMessage) (asks : mild_frame_for what (start_fr
       left_for what view adds.came adds.answers r.drive t.drive silent
       (⊎_elim
       (λ (near : IfSome (talker_of got.answer) (λ p. q ≤ p)). unl_brought what k q (behind_unl a got.answer) adds.came (behind_mild a got.answer low legal) (as_behind k q a got.answer adds.came (got.made.whole.brought (receive_near q a None s got.answer near))))
-      (λ (far : StandsBehind got.answer r).
+      (λ (far : LiesAfter got.answer r).
       let passed = got.passed far in
-      far_first k q a adds.came passed.before (passed.spoken ++ passed.behind) low passed.all passed.first
-      (mild_append what passed.spoken passed.behind (spoken_mild what passed.spoken passed.during) (brought_mild what k q (commanded 0 unt) passed.behind refl passed.last)))
+      far_first k q a adds.came passed.before (passed.spoken ++ passed.after) low passed.all passed.first
+      (mild_append what passed.spoken passed.after (spoken_mild what passed.spoken passed.during) (brought_mild what k q (commanded 0 unt) passed.after refl passed.last)))
       (where_talker q got.answer))
       adds.drive
 
@@ -261,11 +261,11 @@ module _ (what : Start) (s : StartMessage) (asks : mild_frame_for what (start_fr
       left_for what view adds.came adds.answers r.drive t.drive silent
       (⊎_elim
       (λ (near : IfSome (talker_of got.answer) (λ p. q ≤ p)). unl_cut what k q broke.standing (behind_unl a got.answer) adds.came (behind_mild a got.answer low legal) (as_cut k q a broke.standing got.answer adds.came (broke.brought (receive_near q a None s got.answer near))))
-      (λ (far : StandsBehind got.answer r).
+      (λ (far : LiesAfter got.answer r).
       let passed = got.passed far in
-      far_first k q a adds.came passed.before (passed.spoken ++ passed.behind) low passed.all passed.first
-      (mild_append what passed.spoken passed.behind (spoken_mild what passed.spoken passed.during)
-      (⊎_elim (λ none. subst (AllMildFor what) (sym none.1) tt) (λ some. cut_mild what k q _ (commanded 0 unt) passed.behind refl some.1) passed.last)))
+      far_first k q a adds.came passed.before (passed.spoken ++ passed.after) low passed.all passed.first
+      (mild_append what passed.spoken passed.after (spoken_mild what passed.spoken passed.during)
+      (⊎_elim (λ none. subst (AllMildFor what) (sym none.1) tt) (λ some. cut_mild what k q _ (commanded 0 unt) passed.after refl some.1) passed.last)))
       (where_talker q got.answer))
       adds.drive
 

@@ -123,7 +123,7 @@ module _ {M : Type 0} (view : M → MediumView) (a : ℕ) (r s : RingView M) (lo
         drive = drive;
       }
 
--- ---- one behind the other
+-- ---- one after the other
 
 take_ids : (i : ℕ) (ds : List DeviceState) → i < length ds → take (suc i) (ids_of ds) ≡ take i (ids_of ds) ++ accessory_at i ds ∷ []
 take_ids i [] within = absurd (omega (arith, within))

@@ -1,4 +1,4 @@
--- Which places in the poll devices have behind a call, and that the drive stays free.
+-- Which places in the poll devices have after a call, and that the drive stays free.
 use Rattle.std.proofs.Common.{◌≡◌, ◌∙◌, ◌+◌, inl, inr, ⊎_elim, ◌++◌, ℕ, zero, suc, Bool, true, false, List, [], ◌∷◌, Option, length, map, ap, arith}
 use Rattle.il_frames.specs.declared.message.Message.{Message}
 use Rattle.il_device.specs.State.{DeviceState}

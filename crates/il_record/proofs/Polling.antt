@@ -37,7 +37,7 @@ module _ {M : Type 0} (view : M → MediumView) (d k₀ : ℕ) (low : d ≤ 30) 
   untold came outs v w address mute sp ran =
       let front = front_plain k₀ d d sp.before sp.first in
       let during = untaken_frames k₀ d Sst sp.during sp.middle in
-      let so = ran_asked view sp.before sp.during sp.behind [] sp.answers_before sp.answers_during sp.answers_behind came outs v w sp.all sp.all_answers sp.many_before sp.many_during sp.said ran in
+      let so = ran_asked view sp.before sp.during sp.after [] sp.answers_before sp.answers_during sp.answers_after came outs v w sp.all sp.all_answers sp.many_before sp.many_during sp.said ran in
       let up_to : Ran view v (unl ∷ rfc ∷ tad d ∷ rfc ∷ start_frame Sst ∷ []) (so.outs_before ++ so.outs_during) so.last =
       subst (λ fs. Ran view v fs (so.outs_before ++ so.outs_during) so.last) (λ i. front i ++ during i) (joins view sp.before sp.during so.outs_before so.outs_during v so.first so.last so.ran_before so.ran_during) in
       let told = tells view d (so.outs_before ++ so.outs_during) v so.last low address mute up_to in

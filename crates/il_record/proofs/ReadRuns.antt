@@ -125,7 +125,7 @@ sent_received a NotTaken legal number s = sent_bytes-not_taken 0 a number s
 sent_received a (ToItsEnd p ds) legal number s = sent_bytes-to_its_end 0 a number s p ds (end_echoes p ds legal).1
 sent_received a (Stopped p ds last) legal number s = let echoes = stop_echoes p ds last legal in sent_bytes-stopped 0 a number s p ds last echoes.0 echoes.1
 
--- ---- exchanges one behind the other
+-- ---- exchanges one after the other
 
 pub talked_three : {M : Type 0} (view : M → MediumView) (x y z : Exchange) (r a b s : RingView M) → IsIdle r → Made view x r a → Made view y a b → Made view z b s → Talked view true (WholeOne x ∷ WholeOne y ∷ WholeOne z ∷ []) r s
 talked_three view x y z r a b s idle one two three =
@@ -318,7 +318,7 @@ module _ {M : Type 0} (view : M → MediumView) (d first k : ℕ) (r : RingView 
   sought_at : (s : RingView M) → SentAll view d (Some 4) (filled 2 (to_be_bytes w16 first)) r s → SoughtBy view first r s
   sought_at s so = sought_by view first r s low_party small free there (subst (λ d. SentAll view d (Some 4) (filled 2 (to_be_bytes w16 first)) r s) at so)
 
-  -- the receive behind the seek
+  -- the receive after the seek
   read_at : (n : ℕ) (old new : List ℕ) (a b : RingView M) → length old ≡ 256 * k → SoughtBy view first r a → Received view (drive_party r) (Some 2) Sda n a old new b → ReadSo view (drive_party r) k first n old new a.drive b.drive
   read_at n old new a b long so got =
       let party : drive_party a ≡ drive_party r = same_party view _ r a so.made in
@@ -327,7 +327,7 @@ module _ {M : Type 0} (view : M → MediumView) (d first k : ℕ) (r : RingView 
       (read_so view k n first old new a b (omega (arith, party, low_party)) (subst (λ d. IsFree d a.drive.state) (sym party) so.drive.rests.free) (subst (λ m. IsMedium (view m)) (sym same) medium) so.drive.position
       (omega (arith, fits, ap (λ m. (view m).record_count) same)) many long (subst (λ d. Received view d (Some 2) Sda n a old new b) (sym party) got))
 
-  -- the drive has this address behind the receive too
+  -- the drive has this address after the receive too
   polled_at : (n : ℕ) (old new : List ℕ) (a b : RingView M) → SoughtBy view first r a → Received view (drive_party r) (Some 2) Sda n a old new b → drive_party b ≡ drive_party r
   polled_at n old new a b so got = same_party view _ a b got.made ∙ same_party view _ r a so.made
 

@@ -1,4 +1,4 @@
--- The receives of records and of the status: which bytes they brought, and what the drive stands at behind them.
+-- The receives of records and of the status: which bytes they brought, and what the drive stands at after them.
 pub use Rattle.il_control.proofs.IdleDrives.{idle_address, idle_mute, idle_silent, numbered_here, own_is}
 use Rattle.std.proofs.Common.{◌≡◌, ◌∙◌, ◌≤◌, ◌<◌, ◌+◌, ◌*◌, ◌++◌, ◌&&◌, ◌==◌, ⊎_elim, ℕ, suc, true, false, List, [], ◌∷◌, Option, Some, None, not, map, get_or, length, refl, sym, ap, subst, arith, length-append, append_assoc}
 use Rattle.std.specs.Prelude.{drop, nat_le}
@@ -108,8 +108,8 @@ module _ {M : Type 0} (view : M → MediumView) (d k₀ : ℕ) (low : d ≤ 30) 
       → RanAsked view (to_read d) during (unt ∷ rfc ∷ []) said v w
   asked answer came outs v w during said sp is says ran =
       let front = front_numbered k₀ d d 2 sp.before sp.first in
-      let tail = command_frames k₀ d unt sp.behind refl sp.last in
-      let whole = ran_asked view sp.before sp.during sp.behind said sp.answers_before sp.answers_during sp.answers_behind came outs v w sp.all sp.all_answers sp.many_before sp.many_during says ran in
+      let tail = command_frames k₀ d unt sp.after refl sp.last in
+      let whole = ran_asked view sp.before sp.during sp.after said sp.answers_before sp.answers_during sp.answers_after came outs v w sp.all sp.all_answers sp.many_before sp.many_during says ran in
       subst (λ before. RanAsked view before during (unt ∷ rfc ∷ []) said v w) front
       (subst (λ during. RanAsked view sp.before during (unt ∷ rfc ∷ []) said v w) is (subst (λ behind. RanAsked view sp.before sp.during behind said v w) tail whole))
 
@@ -224,8 +224,8 @@ module _ {M : Type 0} (view : M → MediumView) (d k₀ : ℕ) (low : d ≤ 30) 
       let stop = stopped_frames k₀ d Sst [] last sp.during some within refl echo sp.middle in
       let none : stop.echoes ≡ [] = none_come stop.echoes stop.come in
       let front = front_plain k₀ d d sp.before sp.first in
-      let tail = command_frames k₀ d unt sp.behind refl sp.last in
-      let so = ran_asked view sp.before sp.during sp.behind (last.sent ∷ eto ∷ []) sp.answers_before sp.answers_during sp.answers_behind came outs v w sp.all sp.all_answers sp.many_before sp.many_during says ran in
+      let tail = command_frames k₀ d unt sp.after refl sp.last in
+      let so = ran_asked view sp.before sp.during sp.after (last.sent ∷ eto ∷ []) sp.answers_before sp.answers_during sp.answers_after came outs v w sp.all sp.all_answers sp.many_before sp.many_during says ran in
       let during : sp.during ≡ start_frame Sst ∷ nrd ∷ stop.end ∷ [] = stop.are ∙ ap (λ fs. (start_frame Sst ∷ fs) ++ nrd ∷ stop.end ∷ []) none in
       let answers = stop_answers view Sst [] last.sent [] stop.end so.outs_during so.first so.last refl so.says (subst (λ fs. Ran view so.first fs so.outs_during so.last) during so.ran_during) in
       let whole : Ran view v (unl ∷ rfc ∷ tad d ∷ rfc ∷ start_frame Sst ∷ nrd ∷ stop.end ∷ unt ∷ rfc ∷ []) outs w =

@@ -1,4 +1,4 @@
--- Sends, byte behind byte.
+-- Sends, byte after byte.
 use Rattle.std.proofs.Common.{◌≡◌, ◌∙◌, ◌^◌, ◌*◌, ◌/◌, ◌%◌, ap₂, true, ◌≤◌, ◌<◌, ◌+◌, ◌++◌, ℕ, zero, suc, List, [], ◌∷◌, Some, length, take, get_or, refl, sym, ap, subst, arith, length-append}
 use Rattle.std.proofs.Math.Nat.{mod-eq_of_lt, div-lt_iff_lt-mul, div-add-mod}
 use Rattle.std.proofs.Math.Seq.{take-length, take-append_seam}
@@ -13,7 +13,7 @@ use Rattle.loop_model.proofs.UnitLaws.{length-send}
 use Rattle.il_ring.specs.Rings.{RingView, devices_of, spare_of}
 use Rattle.il_ring.specs.Lists.{Each}
 use Rattle.il_control.specs.Calls.{AllStay, IsIdle, IsTold, Made, BrokenOff, Sent, NotSent, sent_as}
-use Rattle.il_control.proofs.Calls.{room_behind}
+use Rattle.il_control.proofs.Calls.{room_after}
 use Rattle.il_control.specs.Brought.{AllCome}
 use Rattle.il_control.proofs.Brings.{send_brings}
 use Rattle.il_control.proofs.Sends.{send_more, send_breaks}
@@ -60,7 +60,7 @@ filled_at n i bytes within = get_or-take n (bytes ++ replicate n 0) i 0 within �
 pub filled_exact : (n : ℕ) (bytes : List ℕ) → length bytes ≡ n → filled n bytes ≡ bytes
 filled_exact n bytes long = ap (λ n. take n (bytes ++ replicate n 0)) (sym long) ∙ take-append_seam bytes (replicate (length bytes) 0)
 
--- ---- byte behind byte
+-- ---- byte after byte
 
 -- nothing was sent yet
 pub sent_nothing : {M : Type 0} (view : M → MediumView) (a : ℕ) (number : Option ℕ) (bytes : List ℕ) (r s : RingView M) → Made view (Send a number []) r s → Each (IsTold a) 1 (devices_of s) → AllStay (not (is_some number)) r s → SentSo view a number 0 bytes r s
@@ -148,7 +148,7 @@ pub sent_room : {M : Type 0} (view : M → MediumView) (a : ℕ) (number : Optio
 sent_room view a number i more bytes r s so room =
     let long = length-send 0 a number so.ds in
     let many = so.many in
-    room_behind view r s (entries_of 0 (Send a number so.ds)) more so.made.whole (omega (arith, long, many, room))
+    room_after view r s (entries_of 0 (Send a number so.ds)) more so.made.whole (omega (arith, long, many, room))
 
 -- ---- a seek
 

@@ -28,7 +28,7 @@ use Rattle.il_record.specs.Talks.{Talked, all_entries}
 use Rattle.il_record.proofs.HeardLogs.{heard_then}
 use Rattle.il_record.proofs.Talks.{talked_then, same_loop}
 
--- ---- one behind the other
+-- ---- one after the other
 
 loops : {M : Type 0} (view : M → MediumView) (whole : Bool) (ps : List Piece) (r s : RingView M) → Talked view whole ps r s → loop_of s ≡ loop_of r
 loops view whole ps r s talked = same_loop view r s None _ (all_entries ps) talked.adds
@@ -67,7 +67,7 @@ party_stays view whole r s came = ap (λ n. n + 1) came.talked.adds.before
 heard : {M : Type 0} (view : M → MediumView) (start r s : RingView M) → OnlyHeard (drive_party start) start r → OnlyHeard (drive_party r) r s → CameBy view true start r → OnlyHeard (drive_party start) start s
 heard view start r s before unheard came = heard_then (drive_party start) start r s before (subst (λ d. OnlyHeard d r s) (party_stays view true start r came) unheard)
 
--- Behind exchanges, or behind nothing: units that all have status 0, where the medium did not fail, or one that has another.
+-- After exchanges, or after nothing: units that all have status 0, where the medium did not fail, or one that has another.
 module _ {M : Type 0} (view : M → MediumView) (us : List RecordUnit) (start r s : RingView M) (free : IsFree start) (units : CameUnits view true us r s) where
   good_good : all_good us ≡ true → (view s.drive.medium).faults ≡ (view r.drive.medium).faults → CameGood view start r → CameGood view start s
   good_good good count so = record {

@@ -1,4 +1,4 @@
--- Exchanges one behind the other.
+-- Exchanges one after the other.
 use Rattle.std.proofs.Common.{◌≡◌, ◌≢◌, ◌∙◌, ◌++◌, ℕ, Bool, true, false, List, [], ◌∷◌, Option, None, ◌+◌, length, refl, sym, ap, ap₂, subst, append-nil}
 use Rattle.std.specs.Prelude.{MatchBool}
 use Rattle.std.specs.List.{list_all}
@@ -57,7 +57,7 @@ broken_talked view x r s broken =
       state = broken.lost;
     }
 
--- ---- one behind the other
+-- ---- one after the other
 
 ends_behind : (whole : Bool) (ps qs : List Piece) → are_whole ps ≡ true → ends_as whole qs ≡ true → ends_as whole (ps ++ qs) ≡ true
 ends_behind whole [] qs first more = more
@@ -71,7 +71,7 @@ ends_behind whole (Cut x n b ∷ ps) qs first more = cc
 pub same_loop : {M : Type 0} (view : M → MediumView) (r m : RingView M) (a b : Option ℕ) (xs : List Entry) → Adds view r a xs b m → loop_of m ≡ loop_of r
 same_loop view r m a b xs adds = ap₂ (λ k q. host_loop k q) adds.size (ap (λ n. n + 1) adds.before)
 
--- behind whole exchanges a frame is held where one is by these alone
+-- after whole exchanges a frame is held where one is by these alone
 held_then : (k d : ℕ) (ps qs : List Piece) → held_at_end None (all_entries ps) ≡ None → list_all (is_piece (host_loop k d)) qs ≡ true → held_at_end None (all_entries ps ++ all_entries qs) ≡ held_at_end None (all_entries qs)
 held_then k d ps qs none legal = by (all_entries qs) (reading_tells k d (all_entries qs) (record { pieces = qs; legal = legal; entries = refl }))
   where

@@ -14,7 +14,7 @@ use Rattle.loop_model.proofs.UnitLaws.{entries_of-receive, length-send, length-c
 use Rattle.il_ring.specs.Adds.{Adds}
 use Rattle.il_ring.specs.Rings.{RingView, devices_of, spare_of}
 use Rattle.il_control.specs.Calls.{Made, BrokenOff, Resumed, NotResumed, addressing}
-use Rattle.il_control.proofs.Calls.{room_behind}
+use Rattle.il_control.proofs.Calls.{room_after}
 use Rattle.il_control.specs.Receives.{Received, NotReceived, received, fits}
 use Rattle.il_record.specs.Sends.{SentAll, SendBroke}
 
@@ -35,7 +35,7 @@ broken_used view x n r s not few =
     let long = length-cut (entries_of 0 x) broke.standing broke.break in
     used view r s None broke.held_at_end (cut_at (entries_of 0 x) broke.standing broke.break) n broke.adds (omega (arith, long, few))
 
--- one behind the other
+-- one after the other
 pub used_on : (r m s first more n : ℕ) → r ≤ m + first → m ≤ s + more → first + more ≤ n → r ≤ s + n
 used_on r m s first more n one two few = omega (arith, one, two, few)
 
@@ -73,7 +73,7 @@ pub received_room : {M : Type 0} (view : M → MediumView) (a n more : ℕ) (num
 received_room view a n more number start r old new s got room =
     let long = received_long a number start got.answer in
     let many = got.count in
-    room_behind view r s (entries_of 0 (Receive a number start got.answer)) more got.made.whole (omega (arith, long, many, room))
+    room_after view r s (entries_of 0 (Receive a number start got.answer)) more got.made.whole (omega (arith, long, many, room))
 
 -- ---- calls
 

@@ -48,7 +48,7 @@ use Rattle.il_record.proofs.Talks.{made_talked, broken_talked, talked_then}
 
 -- ---- the medium
 
--- what was kept before stays so where no record changes behind it
+-- what was kept before stays so where no record changes after it
 keep_still : (first : ℕ) (pieces : List (List ℕ)) (v w x : MediumView) → HasKept first pieces v w → IsStill w x → HasKept first pieces v x
 keep_still first pieces v w x kept still = record {
   stays_in = record {
@@ -203,7 +203,7 @@ module _ {M : Type 0} (view : M → MediumView) (c first : ℕ) (sent : List ℕ
   before : (view a.drive.medium).tape ≡ (view r.drive.medium).tape
   before = ap (λ m. (view m).tape) so.drive.medium
 
-  -- behind so many entries, where these frames came to the drive
+  -- after so many entries, where these frames came to the drive
   write_broke_by : (m : ℕ) (b : Break) (ds : List Echo) (came : List Frame) (outs : List Out) (s : RingView M) → CutSend m drive 2 ds came → Talked view false (WholeOne seek_exchange ∷ Cut (Send drive (Some 2) ds) m b ∷ []) r s → m < 6 + length ds
       → runs.Ran view a.drive came outs s.drive → list_all is_echo ds ≡ true → bytes_of ds ≡ take (length ds) sent → length ds ≤ length sent → OnlyHeard drive a s → WriteBroke view drive first all r s
   write_broke_by m b ds came outs s (InFront j few are) talked within ran legal bytes less unheard =
@@ -344,7 +344,7 @@ module _ {M : Type 0} (view : M → MediumView) (d first c : ℕ) (from : List �
   so_at : (s : RingView M) → SentAll view d (Some 4) (filled 2 (to_be_bytes w16 first)) r s → SoughtBy view first r s
   so_at s so = sought_by view first r s low_party small free (omega (arith, fits, some)) (subst (λ d. SentAll view d (Some 4) (filled 2 (to_be_bytes w16 first)) r s) at so)
 
-  -- the drive has this address behind the send too
+  -- the drive has this address after the send too
   polled_at : (n : ℕ) (a b : RingView M) → SentAll view d (Some 4) (filled 2 (to_be_bytes w16 first)) r a → SentAll view d (Some 2) (filled n from) a b → drive_party b ≡ drive_party r
   polled_at n a b so whole = same_party view _ a b whole.made ∙ same_party view _ r a so.made
 

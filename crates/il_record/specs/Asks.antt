@@ -7,7 +7,7 @@ use Rattle.loop_model.specs.Exchanges.{Answer, NotTaken, ToItsEnd, Stopped, Exch
 use Rattle.il_ring.specs.Rings.{RingView}
 use Rattle.il_record.specs.Came.{CameUnits}
 
--- the bytes that a party told, and whether the controller stopped it behind them
+-- the bytes that a party told, and whether the controller stopped it after them
 pub record Told : Type 0 where
   pub party : ℕ
   pub bytes : List ℕ
@@ -19,8 +19,8 @@ told_of NotTaken = None
 told_of (ToItsEnd p ds) = Some (record { party = p; bytes = bytes_of ds; stopped = false })
 told_of (Stopped p ds last) = Some (record { party = p; bytes = bytes_of ds ++ byte_of last.sent ∷ []; stopped = true })
 
--- All devices obey a command, or take their addresses; the device of an address hears bytes, behind a DDL of a number where one is
--- given; a start message asks it to tell something, behind a DDT, and this is told; all devices set their bits in an identify frame,
+-- All devices obey a command, or take their addresses; the device of an address hears bytes, after a DDL of a number where one is
+-- given; a start message asks it to tell something, after a DDT, and this is told; all devices set their bits in an identify frame,
 -- which comes back as this one.
 pub data Ask : Type 0 where
   AskCommand : Frame → Ask

@@ -35,7 +35,7 @@ pub record Called {M : Type 0} (P : RingView M → RingView M → Type 0) (whole
   pub did : P old.ring new.ring
   pub left : new ≡ record old { ring = new.ring; ready = whole; sound = sound; since = log }
 
--- What such a call answers: P of what it told, or a fault of frames. Where it was whole the store is so sound behind it, and the log
+-- What such a call answers: P of what it told, or a fault of frames. Where it was whole the store is so sound after it, and the log
 -- stands so.
 abbrev pub Calls : {M T : Type 0} → (T → RingView M → RingView M → Type 0) → (RingView M → RingView M → Type 0) → Bool → Since → LoopView M → LoopView M → Result T Trouble → Type 0
 Calls P Q sound log old new (Ok x) = Called (P x) true sound log old new

@@ -1,4 +1,4 @@
--- What exchanges one behind the other made of a ring and of the tape in its drive.
+-- What exchanges one after the other made of a ring and of the tape in its drive.
 use Rattle.std.specs.Prelude.{◌≡◌, ◌≢◌, ◌≤◌, ◌+◌, ◌++◌, ℕ, Bool, false, List, [], ◌∷◌, length, Some}
 use Rattle.lif_model.specs.Tape.{Tape}
 use Rattle.il_frames.specs.declared.entry.Entry.{Entry}

@@ -20,7 +20,7 @@ pub record LeavesDrive {M : Type 0} (v w : DriveView M) : Type 0 where
 
 -- ---- accessory IDs
 
--- an accessory ID is told by one byte, behind which its device is stopped; a device that has none tells nothing
+-- an accessory ID is told by one byte, after which its device is stopped; a device that has none tells nothing
 abbrev pub id_told : ℕ → Option ℕ → Option Told
 id_told a None = None
 id_told a (Some id) = Some (record { party = a; bytes = id ∷ []; stopped = true })

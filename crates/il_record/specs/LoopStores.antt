@@ -146,7 +146,7 @@ pub record IsFresh {S : Type 0} (v : RecordsView S) : Type 0 where
 
 -- ---- for the calls
 
--- how the log stands behind a call that failed
+-- how the log comes after a call that failed
 abbrev pub since_medium : Since → Since
 since_medium since.Unbroken = since.Failed
 since_medium other = other
@@ -157,13 +157,13 @@ since_frame since.Failed = since.Broken
 since_frame since.Said = since.SaidBroken
 since_frame _ = since.Mended
 
--- how it goes on behind a broken exchange
+-- how it goes on after a broken exchange
 abbrev pub since_more : Since → Since
 since_more since.Broken = since.Mended
 since_more since.SaidBroken = since.Mended
 since_more other = other
 
--- behind bytes for another device than the drive
+-- after bytes for another device than the drive
 abbrev pub since_said : Since → Since
 since_said since.Unbroken = since.Said
 since_said since.Failed = since.Said

@@ -20,7 +20,7 @@ use Rattle.il_record.specs.LoopCalls.{LeavesDrive}
 abbrev pub MayPoll : ℕ → DeviceState → Type 0
 MayPoll k d = (d.assignment ≡ None) ⊎ (d.assignment ≡ poll_place k)
 
--- party k may have a place behind the call if it might before. It heard nothing, and wants service if it did.
+-- party k may have a place after the call if it might before. It heard nothing, and wants service if it did.
 pub record PollsOn (k : ℕ) (d e : DeviceState) : Type 0 where
   pub place : MayPoll k d → MayPoll k e
   pub nothing : HearsNothing d e

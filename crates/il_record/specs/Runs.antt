@@ -26,7 +26,7 @@ pub record LeavesRecords {M : Type 0} (view : M → MediumView) (v w : DriveView
   pub still : IsStill (view v.medium) (view w.medium)
   pub count : (view v.medium).faults ≤ (view w.medium).faults
 
--- it told its status by this byte; behind that the status is 0, and the drive rests
+-- it told its status by this byte; after that the status is 0, and the drive rests
 pub record TellsStatus {M : Type 0} (d byte : ℕ) (v w : DriveView M) : Type 0 where
   pub byte_is : byte ≡ status_byte_of (status_of v.state)
   pub rests : IsAtRest d w.state

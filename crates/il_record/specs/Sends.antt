@@ -14,7 +14,7 @@ use Rattle.il_record.specs.Listening.{Hears, HearsPart}
 abbrev pub filled : ℕ → List ℕ → List ℕ
 filled n bytes = take n (bytes ++ replicate n 0)
 
--- The first i bytes were sent to the device of address a, behind the DDL of a number, where one is given. It alone listens, it heard these
+-- The first i bytes were sent to the device of address a, after the DDL of a number, where one is given. It alone listens, it heard these
 -- bytes, by the log too, and no other device heard anything.
 pub record SentSo {M : Type 0} (view : M → MediumView) (a : ℕ) (number : Option ℕ) (i : ℕ) (bytes : List ℕ) (r s : RingView M) : Type 0 where
   pub ds : List Echo

@@ -1,4 +1,4 @@
--- Exchanges one behind the other.
+-- Exchanges one after the other.
 use Rattle.std.specs.Prelude.{◌≡◌, ◌≢◌, Bool, true, MatchBool, List, [], flat_map, None}
 use Rattle.std.specs.List.{list_all}
 use Rattle.il_frames.specs.declared.entry.Entry.{Entry}

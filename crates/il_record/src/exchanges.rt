@@ -10,7 +10,7 @@ use il_control::exchanges::{listen, send_byte};
 use il_ports::Medium;
 use il_ring::{Ring, Seen};
 
-/// The byte at this place, and 0 behind the last.
+/// The byte at this place, and 0 after the last.
 fn byte_at(bytes: &[u8], place: usize) -> u8
     ensures { result ≡ get_or bytes.now place 0 }
 {

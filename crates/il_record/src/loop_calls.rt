@@ -19,7 +19,7 @@ use il_frames::Frame;
 use il_ports::{Medium, Records, Trouble};
 
 impl<M: Medium + Drop> LoopRecords<M> {
-    /// Asks the drive for its status, which is 0 behind it, and answers the status byte: 0, or 64 more than the status.
+    /// Asks the drive for its status, which is 0 after it, and answers the status byte: 0, or 64 more than the status.
     ///
     /// The error is `Trouble::Frame`, and comes exactly where a planned fault acted on a frame of the call.
     pub fn drive_status(&mut self) -> Result<u8, Trouble>

@@ -25,7 +25,7 @@ pub(crate) enum Since {
     Failed,
     /// The last exchange was broken off.
     Broken,
-    /// It goes on behind an exchange that was broken off, or control of the loop was lent.
+    /// It goes on after an exchange that was broken off, or control of the loop was lent.
     Mended,
     /// Bytes were sent to another device than the drive, and all exchanges are whole.
     Said,
@@ -34,7 +34,7 @@ pub(crate) enum Since {
 }
 
 impl Since {
-    /// Behind a call that was broken off.
+    /// After a call that was broken off.
     fn broken(self) -> Since
         ensures { result ≡ since_frame self }
     {
@@ -45,7 +45,7 @@ impl Since {
         }
     }
 
-    /// Behind a call in which the medium failed.
+    /// After a call in which the medium failed.
     fn failed(self) -> Since
         ensures { result ≡ since_medium self }
     {
@@ -65,7 +65,7 @@ impl Since {
         }
     }
 
-    /// Behind bytes for another device than the drive.
+    /// After bytes for another device than the drive.
     pub(crate) fn said(self) -> Since
         ensures { result ≡ since_said self }
     {

@@ -1,4 +1,4 @@
--- Rounds one behind the other.
+-- Rounds one after the other.
 use Rattle.std.proofs.Common.{◌≡◌, ◌+◌, ◌++◌, ℕ, List, [], ◌∷◌, Option, None, length, refl, sym, ap, subst, ◌∙◌, arith, append_assoc, append-nil}
 use Rattle.std.specs.List.{list_all}
 use Rattle.std.proofs.lemmas.Bool.{and_from}
@@ -79,7 +79,7 @@ pub adds_nothing-answers : {M : Type 0} (view : M → MediumView) (r : RingView 
 unfolding adds_nothing
 adds_nothing-answers view r a = refl
 
--- one behind the other
+-- one after the other
 pub adds_more : {M : Type 0} (view : M → MediumView) (r m s : RingView M) (a b c : Option ℕ) (xs ys : List Entry) → Adds view r a xs b m → Adds view m b ys c s → Adds view r a (xs ++ ys) c s
 adds_more view r m s a b c xs ys first more =
     let k = length (devices_of r) in

@@ -28,11 +28,11 @@ use Rattle.il_ring.proofs.Counts.{Counted, counted_append}
 
 -- ---- which frames can go on
 
--- its source lies behind all of these devices
+-- its source comes after all of these devices
 abbrev pub IsBeyond : ℕ → ℕ → Flight → List DeviceState → Type 0
 IsBeyond k j f ds = (j + length ds < f.source) × (f.source ≤ k)
 
--- its source lies behind, or it is awaited, or its source lies beyond
+-- its source comes after, or it is awaited, or its source lies beyond
 abbrev pub ComesFrom : ℕ → ℕ → Flight → List DeviceState → Type 0
 ComesFrom k j f ds = (f.source ≤ j) ⊎ (IsAwaited j f ds ⊎ IsBeyond k j f ds)
 
@@ -86,7 +86,7 @@ ended_here k source j f = by_test (source == j + 1)
 
 -- ---- one party
 
--- where the frame was lost on the link to party j + 1
+-- if the frame was lost on the link to party j + 1
 lost_one : (k j n : ℕ) (log : List Entry) (f : Flight) (d : DeviceState) → j < k → f.source ≤ k → (f.source ≤ j) ⊎ (j < f.source)
     → Counted k j (trip n log (Some f)) (d ∷ []) (trip (risen n) (log ++ lost_at f (j + 1) ∷ []) None) (d ∷ [])
 lost_one k j n log f d on there at = record {
@@ -99,7 +99,7 @@ lost_one k j n log f d on there at = record {
   outside = λ q some most where_. let lost = lost-to k q f.source j some most on there in omega (arith, lost);
 }
 
--- where no frame is on its way
+-- if no frame is on its way
 none_one : (k j n : ℕ) (log : List Entry) (d : DeviceState) → Counted k j (trip n log None) (d ∷ []) (trip n log None) (d ∷ [])
 none_one k j n log d = record {
   entries = [];
@@ -111,7 +111,7 @@ none_one k j n log d = record {
   outside = λ q some most where_. omega arith;
 }
 
--- where party j + 1 passed it on
+-- if party j + 1 passed it on
 passed_one : (k j n : ℕ) (log : List Entry) (f g : Flight) (d e : DeviceState) → j < k → (f.source ≤ j) ⊎ ((j + 1 < f.source) × (f.source ≤ k)) → g.source ≡ f.source → e.frames ≡ risen d.frames
     → Counted k j (trip n log (Some f)) (d ∷ []) (trip (risen n) log (Some g)) (e ∷ [])
 passed_one k j n log f g d e on at same took =
@@ -131,7 +131,7 @@ passed_one k j n log f g d e on at same took =
           omega (arith, other, come_on);
     }
 
--- where party j + 1 sent a frame in its place
+-- if party j + 1 sent a frame in its place
 sourced_one : (k j n : ℕ) (log : List Entry) (f g : Flight) (h : Frame) (d e : DeviceState) → j < k → f.source ≤ k → (f.source ≤ j) ⊎ (j < f.source) → g.source ≡ f.source → e.frames ≡ risen d.frames
     → Counted k j (trip n log (Some f)) (d ∷ []) (trip (risen n) (log ++ ended_at g (j + 1) ∷ []) (Some (sourced (j + 1) h))) (e ∷ [])
 sourced_one k j n log f g h d e on there at same took =
@@ -169,7 +169,7 @@ sourced_one k j n log f g h d e on there at same took =
 
 -- ---- any party
 
--- behind a party of such a kind the frame can go on, and the counts are so
+-- after a party of such a kind the frame can go on, and the counts are so
 abbrev pub Goes : ℕ → ℕ → Trip → DeviceState → List DeviceState → Trip → DeviceState → Type 0
 Goes k j t d ds u e = Counted k j t (d ∷ []) u (e ∷ []) × Stands k (j + 1) u.flight ds
 

@@ -15,12 +15,12 @@ risen_by-add (suc a) b n = let sum : suc a + b ≡ suc (a + b) = omega arith in 
 
 -- ---- frames of devices
 
--- each device, the first of which is party j + 1, took so many frames as lead from the one count of its party to the other
+-- each device, the first of which is party j + 1, took this many frames as lead from the one count of its party to the other
 abbrev pub Framed : (ℕ → ℕ) → (ℕ → ℕ) → ℕ → List DeviceState → List DeviceState → Type 0
-Framed before behind j [] [] = Unit {0}
-Framed before behind j (d ∷ ds) (e ∷ es) = ((c : ℕ) × (e.frames ≡ risen_by c d.frames) × (c + before (j + 1) ≡ behind (j + 1))) × Framed before behind (j + 1) ds es
-Framed before behind j [] (e ∷ es) = ⊥
-Framed before behind j (d ∷ ds) [] = ⊥
+Framed before after j [] [] = Unit {0}
+Framed before after j (d ∷ ds) (e ∷ es) = ((c : ℕ) × (e.frames ≡ risen_by c d.frames) × (c + before (j + 1) ≡ after (j + 1))) × Framed before after (j + 1) ds es
+Framed before after j [] (e ∷ es) = ⊥
+Framed before after j (d ∷ ds) [] = ⊥
 
 -- other counts for the same frames
 framed_as : (b a b₂ a₂ : ℕ → ℕ) (j : ℕ) (ds es : List DeviceState) → ((q c : ℕ) → j < q → q ≤ j + length ds → c + b q ≡ a q → c + b₂ q ≡ a₂ q) → Framed b a j ds es → Framed b₂ a₂ j ds es
@@ -43,7 +43,7 @@ framed_append b a j (d ∷ ds) [] xs ys first more = absurd first
 abbrev pub entries_to : ℕ → ℕ → List Entry → ℕ
 entries_to k q entries = count_by (brings_to k q) entries
 
--- From the trip t to the trip u, on a ring of k devices, past the devices behind party j: these entries, so many links, and
+-- From the trip t to the trip u, on a ring of k devices, past the devices after party j: these entries, this many links, and
 -- the frames that each device took.
 pub record Counted (k j : ℕ) (t : Trip) (ds : List DeviceState) (u : Trip) (es : List DeviceState) : Type 0 where
   pub entries : List Entry
@@ -57,7 +57,7 @@ pub record Counted (k j : ℕ) (t : Trip) (ds : List DeviceState) (u : Trip) (es
 pub entries_append : (k q : ℕ) (xs ys : List Entry) → entries_to k q (xs ++ ys) ≡ entries_to k q xs + entries_to k q ys
 entries_append k q xs ys = sum_by-append (λ e. cond (brings_to k q e) 1 0) xs ys
 
--- one part behind the other
+-- one part after the other
 pub counted_append : (k j : ℕ) (t m u : Trip) (ds es xs ys : List DeviceState) → j + length ds + length xs ≤ k → Counted k j t ds m es → Counted k (j + length ds) m xs u ys → Counted k j t (ds ++ xs) u (es ++ ys)
 counted_append k j t m u ds es xs ys within first more =
     let far : j + length (ds ++ xs) ≡ j + length ds + length xs = omega (arith, length-append ds xs) in

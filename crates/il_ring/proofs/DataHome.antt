@@ -49,7 +49,7 @@ pub record HomeAltered (b : BooksView) (n : ℕ) (f : Flight) (ds es : List Devi
   pub planned : next_fault b.plan (risen_by hop n) ≢ None
   pub took : First HearsAny (length ds) ds es
 
--- it was lost behind so many devices, the first of which is party k
+-- it was lost after this many devices, the first of which is party k
 pub record HomeLost (b : BooksView) (k n : ℕ) (f : Flight) (ds es : List DeviceState) (s : BooksView) (answer : Arrival) : Type 0 where
   pub answer_is : answer ≡ arrival.Lost
   pub reached : ℕ
@@ -90,7 +90,7 @@ lost_last b k n f g fault ds es s answer source sent planned took ends = record 
   took = took;
 }
 
--- behind devices that it passed as it was
+-- after devices that it passed as it was
 clean_last : (b : BooksView) (k n : ℕ) (f : Flight) (now : Frame) (fault : Option PlanFault) (ds es : List DeviceState) (s : BooksView) (answer : Arrival) → IsPlan b.plan → is_data now ≡ true → with_service now ≡ with_service f.now
     → IsClear b.plan n (length ds) → First (HearsByte (byte_of f.now)) (length ds) ds es → next_fault b.plan (risen_by (length ds) n) ≡ fault
     → LinkEnds b (risen_by (length ds) n) (record f { now = now }) (hit fault (record f { now = now })) s answer → DataHome b k n f ds es s answer
@@ -125,7 +125,7 @@ clean_last b k n f now (Some (Alter change)) ds es s answer is data_frame same c
     }))
     by_test false test ends = inr (inr (lost_last b k n f (record f { now = now }) (Alter change) ds es s answer refl refl planned (first_any (byte_of f.now) (length ds) ds es took) ends))
 
--- behind devices on whose way it was altered
+-- after devices on whose way it was altered
 altered_last : (b : BooksView) (k n : ℕ) (f : Flight) (fault : Option PlanFault) (ds es : List DeviceState) (t : Trip) (s : BooksView) (answer : Arrival) → (came : CameAltered b.plan n b.log f ds t es) → next_fault b.plan (risen_by (length ds) n) ≡ fault
     → LinkEnds b (risen_by (length ds) n) (record f { now = came.now; altered = true }) (hit fault (record f { now = came.now; altered = true })) s answer → DataHome b k n f ds es s answer
 altered_last b k n f None ds es t s answer came none ends = inr (inl (record {

@@ -132,7 +132,7 @@ pub record CameAltered (plan : List Planned) (n : ℕ) (log : List Entry) (f : F
   pub planned : next_fault plan (risen_by hop n) ≢ None
   pub took : First HearsAny (length ds) ds es
 
--- it was lost behind so many devices
+-- it was lost after this many devices
 pub record GotLost (plan : List Planned) (k n : ℕ) (log : List Entry) (f : Flight) (ds : List DeviceState) (u : Trip) (es : List DeviceState) : Type 0 where
   pub reached : ℕ
   pub within : reached < length ds

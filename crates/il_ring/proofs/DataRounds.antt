@@ -1,4 +1,4 @@
--- Rounds of the host's data frames, where no device talks.
+-- Rounds of the host's data frames, if no device talks.
 use Rattle.std.proofs.Common.{◌≡◌, ◌≤◌, ◌⊎◌, inl, inr, ⊎_elim, suc, true, Option, length, sym, ap, ◌∙◌, arith}
 use Rattle.il_frames.specs.declared.frame.Frame.{Frame}
 use Rattle.il_frames.specs.Frames.{is_data}
@@ -26,7 +26,7 @@ host_data_round view r s held f answer within plan data_frame silent round =
     let k = length (devices_of r) in
     let n = r.books.crossings in
     let b : BooksView = record r.books { held = held } in
-    let goes = data_past r.books.plan 1 n r.books.log (sourced 0 f) (devices_of r) (devices_of s) round.behind plan silent data_frame (round_journey view r s held (sourced 0 f) answer round) in
+    let goes = data_past r.books.plan 1 n r.books.log (sourced 0 f) (devices_of r) (devices_of s) round.past_all plan silent data_frame (round_journey view r s held (sourced 0 f) answer round) in
     ⊎_elim
     (λ (clean : HomeClean b n (sourced 0 f) (devices_of r) (devices_of s) s.books answer). inl (record {
       back = clean.now;
@@ -66,4 +66,4 @@ host_data_round view r s held f answer within plan data_frame silent round =
       reached = lost.reached;
       heard = lost.took;
     })))
-    (data_home b 1 n (sourced 0 f) (devices_of r) (devices_of s) round.behind s.books answer plan goes (round.books, round.answer_is))
+    (data_home b 1 n (sourced 0 f) (devices_of r) (devices_of s) round.past_all s.books answer plan goes (round.books, round.answer_is))

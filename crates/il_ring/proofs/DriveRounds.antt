@@ -23,7 +23,7 @@ use Rattle.il_ring.proofs.Counts.{risen_by-add}
 use Rattle.il_ring.proofs.Faults.{met_at, risen_by_last}
 use Rattle.il_ring.proofs.Passes.{PassesOn, plain_hit, goes_past, nothing_comes}
 
--- Behind these entries a frame was lost before it came to the drive, at a planned hop.
+-- After these entries a frame was lost before it came to the drive, at a planned hop.
 pub record NotAtDrive {M : Type 0} (r : RingView M) (log : List Entry) (source : ℕ) (sent : Frame) (answer : Arrival) (s : RingView M) : Type 0 where
   pub answer_is : answer ≡ arrival.Lost
   pub party : ℕ
@@ -38,8 +38,8 @@ came_or_not view P r s log source sent answer (inl had) = inr had
 came_or_not view P r s log source sent answer (inr lost) = inl (lost.drive, lost.met_some)
 
 module _ {M : Type 0} (view : M → MediumView) (r s : RingView M) (held : Option Flight) (f : Flight) (answer : Arrival) (round : Round view r held f answer s) where
-  -- the frame g, on its way from the party behind j links, was lost behind so many more, and the drive is as it was
-  pub lost_round : (j crossed party : ℕ) (log : List Entry) (g : Flight) → r.books.crossings ≤ last_crossing → round.behind ≡ trip (risen_by (suc crossed) (risen_by j r.books.crossings)) (log ++ lost_at g party ∷ []) None
+  -- the frame g, on its way from the party after j links, was lost after this many more, and the drive is as it was
+  pub lost_round : (j crossed party : ℕ) (log : List Entry) (g : Flight) → r.books.crossings ≤ last_crossing → round.past_all ≡ trip (risen_by (suc crossed) (risen_by j r.books.crossings)) (log ++ lost_at g party ∷ []) None
       → next_fault r.books.plan (risen_by crossed (risen_by j r.books.crossings)) ≢ None → s.drive ≡ r.drive → NotAtDrive r log g.source g.sent answer s
   lost_round j crossed party log g within is planned drive =
       let books : s.books ≡ record r.books { crossings = risen_by (suc crossed) (risen_by j r.books.crossings); log = log ++ lost_at g party ∷ []; held = None } = round.books ∙ ap (λ u. home (books_at (record r.books { held = held }) u) u.flight) is in
@@ -55,14 +55,14 @@ module _ {M : Type 0} (view : M → MediumView) (r s : RingView M) (held : Optio
             (ap (met (hops_of r.books.plan) r.books.crossings) (sym all) ∙ none);
       }
 
-  -- behind the drive
-  past_lost : (n : ℕ) (log : List Entry) → round.past_drive ≡ trip n log None → round.behind ≡ trip n log None
+  -- after the drive
+  past_lost : (n : ℕ) (log : List Entry) → round.past_drive ≡ trip n log None → round.past_all ≡ trip n log None
   past_lost n log is =
-      let rest = nothing_comes r.books.plan (length r.before + 2) round.past_drive round.behind r.after s.after (λ d e. Unit {0}) (ap (λ (t : Trip). t.flight) is) round.from_drive in
+      let rest = nothing_comes r.books.plan (length r.before + 2) round.past_drive round.past_all r.after s.after (λ d e. Unit {0}) (ap (λ (t : Trip). t.flight) is) round.from_drive in
       rest.0 ∙ is
 
   -- before the drive
-  pub stays_lost : (n : ℕ) (log : List Entry) → round.at_drive ≡ trip n log None → (round.behind ≡ trip n log None) × (s.drive ≡ r.drive)
+  pub stays_lost : (n : ℕ) (log : List Entry) → round.at_drive ≡ trip n log None → (round.past_all ≡ trip n log None) × (s.drive ≡ r.drive)
   stays_lost n log is =
       let here : (round.past_drive ≡ trip n log None) × (s.drive ≡ r.drive) = subst (λ t. Passage (DriveTakes view) r.books.plan (length r.before + 1) t r.drive round.past_drive s.drive) is round.at in
       (past_lost n log here.0, here.1)
@@ -73,7 +73,7 @@ module _ {M : Type 0} (view : M → MediumView) (r s : RingView M) (held : Optio
       let lost = stays_lost (risen_by (suc crossed) (risen_by j r.books.crossings)) (log ++ lost_at g party ∷ []) is in
       lost_round j crossed party log g within lost.0 planned lost.1
 
-  -- a frame that is neither data nor end, where this is planned at the link to the drive
+  -- a frame that is neither data nor end, if this is planned at the link to the drive
   pub plain_there : (j m : ℕ) (log : List Entry) (g : Flight) (fault : Option PlanFault) → r.books.crossings ≤ last_crossing → is_data g.now ≡ false → round.at_drive ≡ trip (risen_by m (risen_by j r.books.crossings)) log (Some g)
       → next_fault r.books.plan (risen_by m (risen_by j r.books.crossings)) ≡ fault → DriveHad view (λ h. h ≡ g.now) r s ⊎ NotAtDrive r log g.source g.sent answer s
   plain_there j m log g None within plain is planned =
@@ -102,7 +102,7 @@ module _ {M : Type 0} (view : M → MediumView) (r s : RingView M) (held : Optio
       (λ lost. inr (lost_ahead j lost.reached (k + lost.reached) log g within lost.trip_is lost.planned))
       (goes_past Q P R rule r.books.plan k n log g ds es round.at_drive fit is journey)
 
--- a frame that every device passes on comes to the drive, or a planned hop is met
+-- a frame that every device passes on comes to the drive, or a planned hop is reached
 pub passed_drive : {M : Type 0} (view : M → MediumView) (Q : ℕ → Frame → Type 0) (P : ℕ → DeviceState → Type 0) (R : DeviceState → DeviceState → Type 0) → PassesOn Q P R → (r s : RingView M) (held : Option Flight) (f : Frame) (answer : Arrival)
     → r.books.crossings ≤ last_crossing → Each P 1 r.before → Q 1 f → Round view r held (sourced 0 f) answer s → DriveTook view (Q (1 + length r.before)) r s
 passed_drive view Q P R rule r s held f answer within fit is round =

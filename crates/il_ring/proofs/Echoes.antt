@@ -1,4 +1,4 @@
--- A data or end frame that goes past silent devices comes to the party behind them, or is lost before: so the held frame of
+-- A data or end frame that goes past silent devices comes to the party after them, or is lost before: so the held frame of
 -- a talker comes back to it.
 use Rattle.std.proofs.Common.{◌≡◌, ◌≢◌, ◌≤◌, ◌<◌, ◌+◌, ◌++◌, ◌⊎◌, ◌&&◌, inl, inr, ℕ, suc, Bool, true, false, not, List, [], ◌∷◌, Option, Some, None, length, refl, sym, ap, subst, ◌∙◌, arith}
 use Rattle.std.specs.Prelude.{if◌then◌else◌}
@@ -21,13 +21,13 @@ use Rattle.il_ring.specs.Lists.{First}
 use Rattle.il_ring.proofs.DataPasses.{DataGoes, xor_other, next_alters}
 use Rattle.il_ring.specs.Outcomes.{HearsAny}
 
--- so it came to the device behind m others: as it was but for the service bit, with nothing planned on its way; or with
+-- so it came to the device after m others: as it was but for the service bit, with nothing planned on its way; or with
 -- another byte
 pub data Arrived (plan : List Planned) (n m : ℕ) (f : Flight) (g : Frame) : Type 0 where
   AsItWas : with_service g ≡ with_service f.now → IsClear plan n (suc m) → Arrived plan n m f g
   Otherwise : byte_of g ≢ byte_of f.now → f.altered ≡ false → (hop : ℕ) → hop ≤ m → next_fault plan (risen_by hop n) ≢ None → Arrived plan n m f g
 
--- the party behind the devices ds answered it, by its rule
+-- the party after the devices ds answered it, by its rule
 pub record Answered {D : Type 0} (rule : D → Frame → Out → D → Type 0) (plan : List Planned) (k n : ℕ) (log : List Entry) (f : Flight) (ds : List DeviceState) (d : D) (rest : List DeviceState) (u : Trip) (e : D) (rest_then : List DeviceState) : Type 0 where
   pub back : Frame
   pub altered : Bool
@@ -37,7 +37,7 @@ pub record Answered {D : Type 0} (rule : D → Frame → Out → D → Type 0) (
   pub takes : rule d back out e
   pub journey : Journey plan (k + 1) (answered (risen_by (suc (length ds)) n) log k (record f { now = back; altered = altered }) out) rest u rest_then
 
--- it was lost behind so many links, on the way past m devices, the first of which is party j, to party k
+-- it was lost after this many links, on the way past m devices, the first of which is party j, to party k
 pub record Gone (plan : List Planned) (j k m n : ℕ) (log : List Entry) (f : Flight) (u : Trip) : Type 0 where
   pub crossed : ℕ
   pub party : ℕ

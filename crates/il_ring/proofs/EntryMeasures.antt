@@ -26,19 +26,19 @@ at_party k f within = ap (λ own. entry f.source f.sent (if own then outcome.Bac
 -- ---- the measures
 
 -- A measure of entries on a ring whose last party is j + 1: how much a frame counts for as it begins at the host, before the last party and
--- behind it; and how much more an entry counts for that was lost on the way to that party, one that ended there, and one behind the last link.
-pub record IsMeasure (j : ℕ) (measure : Entry → ℕ) (first before behind : Option Flight → ℕ) (lost here home : ℕ) : Type 0 where
+-- after it; and how much more an entry counts for that was lost on the way to that party, one that ended there, and one after the last link.
+pub record IsMeasure (j : ℕ) (measure : Entry → ℕ) (first before after : Option Flight → ℕ) (lost here home : ℕ) : Type 0 where
   pub none_before : before None ≡ 0
-  pub none_behind : behind None ≡ 0
+  pub none_after : after None ≡ 0
   pub same : (f g : Flight) → g.source ≡ f.source → before (Some g) ≡ before (Some f)
   pub host_first : (f : Flight) → f.source ≡ 0 → first (Some f) ≡ 0
   pub at_first : (f : Flight) → 1 ≤ f.source → f.source ≤ j + 1 → measure (ended_at f 0) ≡ first (Some f)
   pub lost_there : (f : Flight) → f.source ≤ j + 1 → measure (lost_at f (j + 1)) ≡ before (Some f) + lost
   pub ended_there : (f : Flight) → f.source ≤ j + 1 → measure (ended_at f (j + 1)) ≡ before (Some f) + here
-  pub own : (f : Frame) → behind (Some (sourced (j + 1) f)) ≡ 0
-  pub goes_on : (f : Flight) → f.source ≤ j → behind (Some f) ≡ measure (ended_at f (j + 1))
-  pub lost_home : (f : Flight) → f.source ≤ j + 1 → measure (lost_at f 0) ≡ behind (Some f) + home
-  pub ended_home : (f : Flight) → 1 ≤ f.source → f.source ≤ j + 1 → measure (ended_at f 0) ≡ behind (Some f) + home
+  pub own : (f : Frame) → after (Some (sourced (j + 1) f)) ≡ 0
+  pub goes_on : (f : Flight) → f.source ≤ j → after (Some f) ≡ measure (ended_at f (j + 1))
+  pub lost_home : (f : Flight) → f.source ≤ j + 1 → measure (lost_at f 0) ≡ after (Some f) + home
+  pub ended_home : (f : Flight) → 1 ≤ f.source → f.source ≤ j + 1 → measure (ended_at f 0) ≡ after (Some f) + home
 
 way-first : (k source : ℕ) → 1 ≤ source → source ≤ k → way k source 0 ≡ distance k source 0
 way-first k source some on = grind (arith, nat_tests)
@@ -52,7 +52,7 @@ come-first k party source some within from on = grind (arith, nat_tests)
 pub links_measure : (j : ℕ) → IsMeasure j (links_of (j + 1)) (on_way (j + 1) 0) (on_way (j + 1) j) (on_way (j + 1) (j + 1)) 1 1 1
 links_measure j = record {
   none_before = refl;
-  none_behind = refl;
+  none_after = refl;
   same = λ f g is. ap (λ p. way (j + 1) p j) is;
   host_first = λ f host. ap (λ p. way (j + 1) p 0) host ∙ way-self (j + 1) 0;
   at_first = λ f some on. ended_links (j + 1) f.source 0 f.now ∙ sym (way-first (j + 1) f.source some on);
@@ -79,16 +79,16 @@ came_measure j q some within =
     let low : j < j + 1 = omega arith in
     record {
       none_before = refl;
-      none_behind = refl;
+      none_after = refl;
       same = λ f g is. ap (λ p. come_to (j + 1) q p j) is;
       host_first = λ f host. ap (λ p. come_to (j + 1) q p 0) host ∙ start-host (j + 1) q some most;
       at_first = λ f from on. home_came (j + 1) q f (come_to (j + 1) q f.source 0) from (come-first (j + 1) q f.source some most from on);
       lost_there = λ f on. let is = lost-to (j + 1) q f.source j some most low on in omega (arith, is);
       ended_there = λ f on. let is = ended_brings (j + 1) q f.source j f.now some most other low on in omega (arith, is);
       own = λ f. come-self (j + 1) q (j + 1) some most (omega arith);
-      goes_on = λ f behind.
-          come-other (j + 1) q f.source j some most other low (inl behind)
-          ∙ sym (ended_brings (j + 1) q f.source j f.now some most other low (omega (arith, behind)));
+      goes_on = λ f after.
+          come-other (j + 1) q f.source j some most other low (inl after)
+          ∙ sym (ended_brings (j + 1) q f.source j f.now some most other low (omega (arith, after)));
       lost_home = λ f on. let is = (home-to (j + 1) q f.source some most on).1 in omega (arith, is);
       ended_home = λ f from on.
           let is = home_came (j + 1) q f (come_to (j + 1) q f.source (j + 1)) from (home-to (j + 1) q f.source some most on).0 in omega (arith, is);
@@ -102,15 +102,15 @@ last_measure j =
     let low : j < j + 1 = omega arith in
     record {
       none_before = refl;
-      none_behind = refl;
+      none_after = refl;
       same = λ f g is. ap (λ p. come_to (j + 1) (j + 1) p j) is;
       host_first = λ f host. ap (λ p. come_to (j + 1) (j + 1) p 0) host ∙ start-host (j + 1) (j + 1) some most;
       at_first = λ f from on. home_came (j + 1) (j + 1) f (come_to (j + 1) (j + 1) f.source 0) from (come-first (j + 1) (j + 1) f.source some most from on);
       lost_there = λ f on. let is = lost-to (j + 1) (j + 1) f.source j some most low on in omega (arith, is);
       ended_there = λ f on. let is = ended_here (j + 1) f.source j f.now in let none = come-before (j + 1) f.source j low on in omega (arith, is, none);
       own = λ f. come-self (j + 1) (j + 1) (j + 1) some most most;
-      goes_on = λ f behind.
-          let came = (come-next (j + 1) f.source j low (inl behind)).0 in
+      goes_on = λ f after.
+          let came = (come-next (j + 1) f.source j low (inl after)).0 in
           let is = ended_here (j + 1) f.source j f.now in
           omega (arith, came, is);
       lost_home = λ f on. let is = (home-to (j + 1) (j + 1) f.source some most on).1 in omega (arith, is);

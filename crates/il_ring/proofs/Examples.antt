@@ -1,5 +1,5 @@
 -- Worked examples of the definitions, by hand from the rules of the ring. A ring has the drive at party 1 and a printer
--- at party 2, three links a round, where nothing else is said.
+-- at party 2, three links a round, if nothing else is said.
 use Rattle.std.proofs.Common.{◌≡◌, ◌==◌, ℕ, Bool, List, Option, [], ◌∷◌, Some, None, true, false, inl, inr, refl, ap, arith}
 use Rattle.std.specs.Prelude.{if◌then◌else◌}
 use Rattle.std.proofs.lemmas.Bool.{eqb-true}
@@ -20,7 +20,7 @@ use Rattle.il_ring.specs.declared.flight.Flight.{Flight}
 use Rattle.il_ring.specs.Plans.{hops_of, fault_at, next_fault, rises_from, last_crossing}
 use Rattle.il_ring.specs.Flights.{sourced, altered_by, hit, lost_at, ended_at}
 use Rattle.il_ring.specs.Books.{BooksView, books_emptied}
-use Rattle.il_ring.specs.Fates.{IsMet, CameSo, LostSo, IsByPlan, GoesByPlan, ShowsPlan}
+use Rattle.il_ring.specs.Fates.{IsReached, CameSo, LostSo, IsByPlan, GoesByPlan, ShowsPlan}
 use Rattle.il_ring.specs.Journeys.{trip, answered, missed}
 use Rattle.il_device.specs.declared.device.Out.TheVariants.{Pass, Source}
 use Rattle.il_ring.specs.Rings.{fresh_books, paper_of, home, arriving, arrived}
@@ -47,25 +47,25 @@ no_plan_twice = refl
 no_plan_by_0 : rises_from 0 (record { hop = 2; fault = Alter 0 } ∷ []) ≡ false
 no_plan_by_0 = refl
 
--- the second crossing is the one behind the first
+-- the second crossing is the one after the first
 fault_at_2 : fault_at plan 2 ≡ Some Lose
 fault_at_2 = refl
 
-fault_behind_1 : next_fault plan 1 ≡ Some Lose
-fault_behind_1 = refl
+fault_after_1 : next_fault plan 1 ≡ Some Lose
+fault_after_1 = refl
 
-none_behind_2 : next_fault plan 2 ≡ None
-none_behind_2 = refl
+none_after_2 : next_fault plan 2 ≡ None
+none_after_2 = refl
 
--- a fault at the greatest count acts at the crossing that brings the count there, and at none behind it
+-- a fault at the greatest count acts at the crossing that brings the count there, and at none after it
 abbrev last : List Planned
 last = record { hop = last_crossing; fault = Lose } ∷ []
 
 fault_at_last : next_fault last 18446744073709551614 ≡ Some Lose
 fault_at_last = refl
 
-none_behind_last : next_fault last last_crossing ≡ None
-none_behind_last = refl
+none_after_last : next_fault last last_crossing ≡ None
+none_after_last = refl
 
 -- ---- frames on their way
 
@@ -167,14 +167,14 @@ planned_there hop n here fault planned = by_test (hop == n) refl planned
     by_test false at planned = cc
 
 -- after three crossings, and up to six
-met_at_5 : (fault : PlanFault) → IsMet (alone 5 fault) 3 6 fault
+met_at_5 : (fault : PlanFault) → IsReached (alone 5 fault) 3 6 fault
 met_at_5 fault = record { hop = 5; after = omega arith; up_to = omega arith; planned = refl }
 
--- what was planned up to then is met no more, and what is planned later is not met yet
-not_met_before : IsMet (alone 3 Lose) 3 6 Lose → ⊥
+-- what was planned up to then is reached no more, and what is planned later is not reached yet
+not_met_before : IsReached (alone 3 Lose) 3 6 Lose → ⊥
 not_met_before met = let there = planned_there 3 met.hop Lose Lose met.planned in omega (arith, there.0, met.after)
 
-not_met_later : IsMet (alone 7 Lose) 3 6 Lose → ⊥
+not_met_later : IsReached (alone 7 Lose) 3 6 Lose → ⊥
 not_met_later met = let there = planned_there 7 met.hop Lose Lose met.planned in omega (arith, there.0, met.up_to)
 
 -- 0 DAB 41 = DAB 40 is by an alteration with 1, and by no loss
@@ -197,7 +197,7 @@ not_lost_by_alteration (inl met) = let clash = (planned_there 5 met.hop (Alter 1
 not_lost_by_alteration (inr (inl met)) = let clash = met.0 in cc
 not_lost_by_alteration (inr (inr met)) = twice met.0 met.1 met.2 met.3 met.4
   where
-    twice : (between first second : ℕ) → IsMet (alone 5 (Alter 1)) 3 between (Alter first) → IsMet (alone 5 (Alter 1)) between 6 (Alter second) → ⊥
+    twice : (between first second : ℕ) → IsReached (alone 5 (Alter 1)) 3 between (Alter first) → IsReached (alone 5 (Alter 1)) between 6 (Alter second) → ⊥
     twice between first second one other =
         let at = planned_there 5 one.hop (Alter 1) (Alter first) one.planned in
         let again = planned_there 5 other.hop (Alter 1) (Alter second) other.planned in
@@ -239,7 +239,7 @@ shows_no_loss shows = by (All-head (IsByPlan [] 3 6) lost_byte [] shows.entries)
     by (inr (inl met)) = let clash = met.0 in cc
     by (inr (inr met)) = let clash = met.3.planned in cc
 
--- a log that is emptied begins here, and where a byte is held as it began
+-- a log that is emptied begins here, and if a byte is held as it began
 begins_here : books_emptied (books [] 2 None) ≡ record { plan = []; crossings = 2; begun = 2; log = []; room = 100; held = None; lent = None; kept = None }
 begins_here = refl
 

@@ -1,4 +1,4 @@
--- The log of a ring tells the planned faults as they were planned.
+-- The log of a ring shows the planned faults as they were planned.
 use Rattle.std.proofs.Common.{◌≡◌, ◌≤◌, ◌+◌, ◌++◌, ◌==◌, ◌&&◌, inl, inr, ℕ, Bool, true, false, not, List, [], ◌∷◌, Option, Some, None, MatchBool, refl, sym, ap, subst, ◌∙◌, arith, nat_lt}
 use Rattle.std.specs.Prelude.{if◌then◌else◌, bit_xor}
 use Rattle.std.proofs.lemmas.List.Elements.{All-nil, All-push, All-weaker}
@@ -28,7 +28,7 @@ use Rattle.il_ring.specs.declared.flight.Flight.{Flight}
 use Rattle.il_ring.specs.Plans.{fault_at, next_fault, last_crossing}
 use Rattle.il_ring.specs.Flights.{sourced, altered_by, hit, lost_at, ended_at}
 use Rattle.il_ring.specs.Books.{BooksView, books_emptied}
-use Rattle.il_ring.specs.Fates.{IsMet, IsAltered, CameSo, LostSo, EndsSo, IsByPlan, GoesByPlan, HoldsByPlan, ShowsPlan}
+use Rattle.il_ring.specs.Fates.{IsReached, IsAltered, CameSo, LostSo, EndsSo, IsByPlan, GoesByPlan, HoldsByPlan, ShowsPlan}
 use Rattle.il_ring.specs.Journeys.{Trip, trip, trip_of, answered, Passage, Journey}
 use Rattle.il_ring.specs.Rings.{books_at, comes, home, over_last_link}
 use Rattle.il_ring.proofs.Faults.{risen_within, risen_later}
@@ -70,10 +70,10 @@ passes_so d e f h takes =
       byte = λ is. ap byte_of (on ∙ passed-data d.roles e.assignment e.wants f is) ∙ same_byte f (served e.wants f) (served_same e.wants f);
     }
 
--- ---- what was met stays met
+-- ---- what was reached stays reached
 
 module _ (plan : List Planned) (from : ℕ) where
-  met_on : (to later : ℕ) (fault : PlanFault) → to ≤ later → IsMet plan from to fault → IsMet plan from later fault
+  met_on : (to later : ℕ) (fault : PlanFault) → to ≤ later → IsReached plan from to fault → IsReached plan from later fault
   met_on to later fault le met = record { hop = met.hop; after = met.after; up_to = omega (arith, le, met.up_to); planned = met.planned }
 
   altered_on : (to later : ℕ) (f g : Frame) → to ≤ later → IsAltered plan from to f g → IsAltered plan from later f g
@@ -83,7 +83,7 @@ module _ (plan : List Planned) (from : ℕ) where
   lost_on to later f le (inl met) = inl (met_on to later Lose le met)
   lost_on to later f le (inr (inl met)) = inr (inl (met.0, met.1, met_on to later (Alter met.1) le met.2))
   lost_on to later f le (inr (inr met)) =
-      let up : IsMet plan met.0 to (Alter met.2) = met.4 in
+      let up : IsReached plan met.0 to (Alter met.2) = met.4 in
       inr (inr (met.0, met.1, met.2, met.3, record { hop = up.hop; after = up.after; up_to = omega (arith, le, up.up_to); planned = up.planned }))
 
   came_on : (to later : ℕ) (f g : Frame) → to ≤ later → CameSo plan from to f g → CameSo plan from later f g
@@ -131,16 +131,16 @@ module _ (plan : List Planned) (from : ℕ) where
 
   -- ---- over a link
 
-  next_met : (n : ℕ) (fault : PlanFault) → next_fault plan n ≡ Some fault → IsMet plan n (risen n) fault
+  next_met : (n : ℕ) (fault : PlanFault) → next_fault plan n ≡ Some fault → IsReached plan n (risen n) fault
   next_met n fault planned = by_test (nat_lt n last_crossing) refl planned
     where
-      by_test : (test : Bool) → nat_lt n last_crossing ≡ test → (if test then fault_at plan (n + 1) else None) ≡ Some fault → IsMet plan n (risen n) fault
+      by_test : (test : Bool) → nat_lt n last_crossing ≡ test → (if test then fault_at plan (n + 1) else None) ≡ Some fault → IsReached plan n (risen n) fault
       by_test true lt planned =
           let below = ltb-true n last_crossing lt in
           record { hop = n + 1; after = omega arith; up_to = omega (arith, below); planned = planned }
       by_test false lt planned = cc
 
-  next_since : (n : ℕ) (fault : PlanFault) → from ≤ n → next_fault plan n ≡ Some fault → IsMet plan from (risen n) fault
+  next_since : (n : ℕ) (fault : PlanFault) → from ≤ n → next_fault plan n ≡ Some fault → IsReached plan from (risen n) fault
   next_since n fault le planned =
       let met = next_met n fault planned in
       record { hop = met.hop; after = omega (arith, le, met.after); up_to = met.up_to; planned = met.planned }
@@ -154,7 +154,7 @@ module _ (plan : List Planned) (from : ℕ) where
   altered_so : (n change : ℕ) (f : Flight) → from ≤ n → n ≤ last_crossing → next_fault plan n ≡ Some (Alter change) → GoesByPlan plan from n f → GoesSo (risen n) f (hit (Some (Alter change)) f)
   altered_so n change f le within planned way = by_test (is_data f.now && not f.altered) refl
     where
-      since : IsMet plan from (risen n) (Alter change)
+      since : IsReached plan from (risen n) (Alter change)
       since = next_since n (Alter change) le planned
 
       by_altered : (altered : Bool) → (true && not altered) ≡ false → Byte altered n f.sent f.now → LostSo plan from (risen n) f.sent
@@ -213,7 +213,7 @@ told_cleared b told = by b.held b.lent b.kept told.held told.lent told.kept
 
 -- ---- a trip
 
--- these books tell it as the trip stands, and so does the frame that is on its way
+-- these books show it after the trip, and so does the frame that is on its way
 pub record TellsTrip (b : BooksView) (t : Trip) : Type 0 where
   pub told : ShowsPlan (books_at b t)
   pub within : t.crossings ≤ last_crossing
@@ -228,21 +228,20 @@ module _ (b : BooksView) where
     way = sourced_way b.plan b.begun n k h;
   }
 
-  module _ {D : Type 0} (takes : D → Frame → Out → D → Type 0) (rule : (d e : D) (f h : Frame) → takes d f (Pass h) e → PassesSo f h) where
-    pub passage_so : (k : ℕ) (t u : Trip) (d e : D) → TellsTrip b t → Passage takes b.plan k t d u e → TellsTrip b u
-    passage_so k t u d e tells passage =
-        let later = told_on (books_at b t) (risen t.crossings) (risen_later t.crossings tells.within) tells.told in
-        let way : (f : Flight) (o : Option Flight) → t.flight ≡ Some f → hit (next_fault b.plan t.crossings) f ≡ o → GoesSo b.plan b.begun (risen t.crossings) f o =
-        λ f o is came. subst (GoesSo b.plan b.begun (risen t.crossings) f) came
-        (hit_so b.plan b.begun t.crossings f (next_fault b.plan t.crossings) tells.told.begun tells.within refl (subst (HoldsByPlan b.plan b.begun t.crossings) is tells.way)) in
-        past_party takes b.plan k t d (λ u e. TellsTrip b u) (λ is. tells)
-        (λ f is gone. record { told = told_noted (books_at b (trip (risen t.crossings) t.log None)) (lost_at f k) (way f None is gone) later; within = risen_within t.crossings; way = tt })
-        (λ f g out e is came took. answered_so (risen t.crossings) k t.log g out (risen_within t.crossings) later (way f (Some g) is came) (λ h same. rule d e g.now h (subst (λ out. takes d g.now out e) same took)))
-        u e passage
+  passage_so : (k : ℕ) (t u : Trip) (d e : DeviceState) → TellsTrip b t → Passage Takes b.plan k t d u e → TellsTrip b u
+  passage_so k t u d e tells passage =
+      let later = told_on (books_at b t) (risen t.crossings) (risen_later t.crossings tells.within) tells.told in
+      let way : (f : Flight) (o : Option Flight) → t.flight ≡ Some f → hit (next_fault b.plan t.crossings) f ≡ o → GoesSo b.plan b.begun (risen t.crossings) f o =
+      λ f o is came. subst (GoesSo b.plan b.begun (risen t.crossings) f) came
+      (hit_so b.plan b.begun t.crossings f (next_fault b.plan t.crossings) tells.told.begun tells.within refl (subst (HoldsByPlan b.plan b.begun t.crossings) is tells.way)) in
+      past_party Takes b.plan k t d (λ u e. TellsTrip b u) (λ is. tells)
+      (λ f is gone. record { told = told_noted (books_at b (trip (risen t.crossings) t.log None)) (lost_at f k) (way f None is gone) later; within = risen_within t.crossings; way = tt })
+      (λ f g out e is came took. answered_so (risen t.crossings) k t.log g out (risen_within t.crossings) later (way f (Some g) is came) (λ h same. passes_so d e g.now h (subst (λ out. Takes d g.now out e) same took)))
+      u e passage
 
   pub journey_so : (k : ℕ) (t u : Trip) (ds es : List DeviceState) → TellsTrip b t → Journey b.plan k t ds u es → TellsTrip b u
   journey_so k t u ds es tells journey =
-      (past_devices b.plan 0 (λ k t. TellsTrip b t) (λ d e. Unit {0}) (λ k t u d e some tells passage. (passage_so Takes (λ d e f h takes. passes_so d e f h takes) k t u d e tells passage, tt)) k t u ds es (omega arith) tells journey).0
+      (past_devices b.plan 0 (λ k t. TellsTrip b t) (λ d e. Unit {0}) (λ k t u d e some tells passage. (passage_so k t u d e tells passage, tt)) k t u ds es (omega arith) tells journey).0
 
 -- ---- at home
 

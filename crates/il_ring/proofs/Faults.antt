@@ -1,4 +1,4 @@
--- Planned hops that are met, link by link.
+-- Planned hops that are reached, link by link.
 use Rattle.std.proofs.Common.{◌≡◌, ◌≢◌, ◌≤◌, ◌<◌, ◌+◌, ◌↔◌, ◌==◌, ◌&&◌, ⊎_elim, ℕ, zero, suc, Bool, true, false, List, [], ◌∷◌, Option, Some, None, refl, sym, ap, subst, ◌∙◌, arith, nat_lt, nat_le}
 use Rattle.std.specs.Prelude.{if◌then◌else◌}
 use Rattle.std.proofs.lemmas.Bool.{lt-ltb}
@@ -11,18 +11,18 @@ use Rattle.il_ring.specs.declared.plan.Planned.{Planned}
 use Rattle.il_ring.specs.declared.plan.PlanFault.{PlanFault}
 use Rattle.il_ring.specs.Plans.{hops_of, fault_at, next_fault, last_crossing}
 
--- nothing is planned at the next so many crossings
+-- nothing is planned at the next n crossings
 abbrev pub IsClear : List Planned → ℕ → ℕ → Type 0
 IsClear plan n zero = Unit {0}
 IsClear plan n (suc m) = (next_fault plan n ≡ None) × IsClear plan (risen n) m
 
 -- ---- the next crossing
 
-kept_none : (test : Bool) (hop : ℕ) (hops : List ℕ) → (if test then hop ∷ hops else hops) ≡ [] → (test ≡ false) × (hops ≡ [])
+pub kept_none : (test : Bool) (hop : ℕ) (hops : List ℕ) → (if test then hop ∷ hops else hops) ≡ [] → (test ≡ false) × (hops ≡ [])
 kept_none true hop hops e = cc
 kept_none false hop hops e = (refl, e)
 
-none_kept : (test : Bool) (hop : ℕ) (hops : List ℕ) → test ≡ false → hops ≡ [] → (if test then hop ∷ hops else hops) ≡ []
+pub none_kept : (test : Bool) (hop : ℕ) (hops : List ℕ) → test ≡ false → hops ≡ [] → (if test then hop ∷ hops else hops) ≡ []
 none_kept test hop hops e f = rw e f
 
 is_next : (n hop : ℕ) → (nat_lt n hop && nat_le hop (n + 1)) ≡ (hop == n + 1)
@@ -51,7 +51,7 @@ pub met_nowhere : (hops : List ℕ) (n : ℕ) → met hops n n ≡ []
 met_nowhere [] n = refl
 met_nowhere (hop ∷ hops) n = none_kept (nat_lt n hop && nat_le hop n) hop (met hops n n) (is_none_yet n hop) (met_nowhere hops n)
 
--- ---- so many crossings
+-- ---- this many crossings
 
 one_more : (plan : List Planned) (n : ℕ) → n ≤ last_crossing → (met (hops_of plan) n (risen n) ≡ []) ↔ (next_fault plan n ≡ None)
 one_more plan n within =
@@ -80,7 +80,7 @@ pub risen_by_later : (m n : ℕ) → n ≤ last_crossing → n ≤ risen_by m n
 risen_by_later zero n within = omega arith
 risen_by_later (suc m) n within = omega (arith, risen_by_later m (risen n) (risen_within n), risen_later n within)
 
--- no planned hop is met exactly where nothing is planned at these crossings
+-- no planned hop is reached if and only if nothing is planned at these crossings
 pub clear_met : (plan : List Planned) (m n : ℕ) → n ≤ last_crossing → (met (hops_of plan) n (risen_by m n) ≡ []) ↔ IsClear plan n m
 clear_met plan zero n within = ((λ _. tt), (λ _. met_nowhere (hops_of plan) n))
 clear_met plan (suc m) n within =
@@ -97,7 +97,7 @@ pub clear_more : (plan : List Planned) (m j n : ℕ) → IsClear plan n m → Is
 clear_more plan zero j n first more = let sum : 0 + j ≡ j = omega arith in subst (IsClear plan n) (sym sum) more
 clear_more plan (suc m) j n first more = let sum : suc m + j ≡ suc (m + j) = omega arith in subst (IsClear plan n) (sym sum) (first.0, clear_more plan m j (risen n) first.1 more)
 
--- where something is planned at one of the crossings, a planned hop is met
+-- if something is planned at one of the crossings, a planned hop is reached
 pub clear_at : (plan : List Planned) (j m n : ℕ) → j < m → IsClear plan n m → next_fault plan (risen_by j n) ≡ None
 clear_at plan j zero n lt clear = absurd (omega (arith, lt))
 clear_at plan zero (suc m) n lt clear = clear.0

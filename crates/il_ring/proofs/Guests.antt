@@ -20,7 +20,7 @@ pub guest_paper : (guest : Option GuestState) → IsLast guest → paper_of (gue
 guest_paper None may = refl
 guest_paper (Some g) may = rw may.accessory refl
 
--- ---- where there is none
+-- ---- if there is none
 
 pub alone : (ds es : List DeviceState) (guest : Option GuestState) → guest ≡ None → es ≡ ds ++ guest_devices guest → es ≡ ds
 alone ds es guest none is = is ∙ ap (λ guest. ds ++ guest_devices guest) none ∙ append-nil ds

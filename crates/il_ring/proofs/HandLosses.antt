@@ -1,9 +1,6 @@
--- Where TCT was lost before the last party took it, its round was one of the host's, as on a ring without a second controller.
-use Rattle.std.proofs.Common.{◌≡◌, ◌∙◌, ◌⊎◌, ◌++◌, inl, inr, ⊎_elim, true, false, List, ◌∷◌, Option, Some, None, refl, sym, ap, subst}
+-- If TCT was lost before the last party took it, its round was one of the host's, as on a ring without a second controller.
+use Rattle.std.proofs.Common.{◌≡◌, ◌∙◌, ◌⊎◌, inl, inr, ⊎_elim, true, false, Option, Some, None, refl, sym, ap, subst}
 use Rattle.il_frames.specs.Frames.{is_data}
-use Rattle.il_frames.specs.Messages.{message_of}
-use Rattle.il_device.specs.State.{DeviceState}
-use Rattle.il_drive.specs.State.{device_of}
 use Rattle.il_ports.specs.Media.{MediumView}
 use Rattle.il_guest.specs.declared.control.Control.TheVariants as control
 use Rattle.il_guest.specs.declared.guest.GuestOut.{GuestOut}
@@ -17,35 +14,27 @@ use Rattle.il_ring.specs.declared.flight.Flight.{Flight}
 use Rattle.il_ring.specs.Flights.{hit, sourced}
 use Rattle.il_ring.specs.Guests.{IsUnderHost, guest_mind}
 use Rattle.il_ring.specs.HandedOver.{HandLost, HandedOver}
-use Rattle.il_ring.specs.Journeys.{Trip}
-use Rattle.il_ring.specs.Lending.{LedRound, hands_over, leads}
-use Rattle.il_ring.specs.Outcomes.{Obeys}
+use Rattle.il_ring.specs.Lending.{ControlledRound, hands_over, leads}
 use Rattle.il_ring.specs.Rings.{IsRing, RingView, Round}
-use Rattle.il_ring.proofs.EndsHome.{any_each}
-use Rattle.il_ring.proofs.HandedOver.{handed_over, host, talks}
+use Rattle.il_ring.proofs.HandedOver.{comes_so, handed_over, host, talks}
 use Rattle.il_ring.proofs.Handing.{OnWay}
-use Rattle.il_ring.proofs.LedRounds.{led_host_round, led_to_last}
+use Rattle.il_ring.proofs.ControlledRounds.{controlled_host_round}
 use Rattle.il_ring.proofs.Lendings.{EndPasses, PassesAll}
-use Rattle.il_ring.proofs.PassKinds.{Any, Is, plain_passes}
-use Rattle.il_ring.proofs.Passes.{LostBehind, Through, goes_past, plain_hit}
+use Rattle.il_ring.proofs.Passes.{plain_hit}
 
--- behind a link it comes as it was, or not at all
+-- after a link it comes as it was, or not at all
 stays_tct : (fault : Option PlanFault) (f : Flight) (o : Option Flight) → f.now ≡ tct → hit fault f ≡ o → OnWay (λ f. f ≡ tct) o
 stays_tct None f o is hits = subst (OnWay (λ f. f ≡ tct)) hits is
 stays_tct (Some fault) f o is hits = subst (OnWay (λ f. f ≡ tct)) (sym (plain_hit fault f (ap is_data is)) ∙ hits) tt
 
-module _ {M : Type 0} (view : M → MediumView) (r s : RingView M) (answer : Arrival) (round : LedRound view r (sourced 0 tct) answer s) (ring : IsRing r) (under : IsUnderHost r.guest) (over : hands_over r tct ≡ true) where
-  abbrev front : List DeviceState
-  front = r.before ++ device_of r.drive.state ∷ round.boxed
-
-  abbrev front_then : List DeviceState
-  front_then = s.before ++ device_of s.drive.state ∷ round.boxed_then
-
-  comes_so : OnWay (λ f. f ≡ tct) round.at_last.flight
-  comes_so = ⊎_elim
-      (λ (on : Through (Is tct) Any (Obeys (message_of tct)) r.books.plan 1 r.books.crossings r.books.log (sourced 0 tct) front round.at_last front_then). subst (λ (t : Trip). OnWay (λ f. f ≡ tct) t.flight) (sym on.trip_is) on.is_now)
-      (λ (lost : LostBehind (Is tct) Any (Obeys (message_of tct)) r.books.plan 1 r.books.crossings r.books.log (sourced 0 tct) front round.at_last front_then). subst (λ (t : Trip). OnWay (λ f. f ≡ tct) t.flight) (sym lost.trip_is) tt)
-      (goes_past (Is tct) Any (Obeys (message_of tct)) (plain_passes tct refl) r.books.plan 1 r.books.crossings r.books.log (sourced 0 tct) front front_then round.at_last (any_each 1 front) refl (led_to_last view r s (sourced 0 tct) answer round))
+module _ {M : Type 0} (view : M → MediumView) (r s : RingView M) (answer : Arrival) (round : ControlledRound view r (sourced 0 tct) answer s) (ring : IsRing r) (under : IsUnderHost r.guest) (over : hands_over r tct ≡ true) where
+  -- TCT comes to the last party as it was sent, or nothing comes
+  comes_tct : OnWay (λ f. f ≡ tct) round.at_last.flight
+  comes_tct = by round.at_last.flight refl
+    where
+      by : (o : Option Flight) → round.at_last.flight ≡ o → OnWay (λ f. f ≡ tct) o
+      by None is = tt
+      by (Some y) is = ap (λ (f : Flight). f.now) (comes_so view r s answer round ring under over y is)
 
   -- a party that has the same in mind has not taken it
   not_taken : (g h : GuestState) → round.guest ≡ Some g → round.guest_then ≡ Some h → s.guest ≡ r.guest → PassesAll (λ f. f ≡ tct) g h
@@ -68,8 +57,8 @@ module _ {M : Type 0} (view : M → MediumView) (r s : RingView M) (answer : Arr
       by (Some g) (Some h) is next = not_taken g h is next same
 
   pub lost_round : HandLost r answer s → Round view r r.books.held (sourced 0 tct) answer s
-  lost_round lost = led_host_round view r s (sourced 0 tct) answer round (λ f. f ≡ tct) (none_taken lost.guest_is) comes_so under
+  lost_round lost = controlled_host_round view r s (sourced 0 tct) answer round (λ f. f ≡ tct) (none_taken lost.guest_is) comes_tct under
 
 -- it was lost so, or that party took it
-pub hand_sent : {M : Type 0} (view : M → MediumView) (r s : RingView M) (answer : Arrival) → LedRound view r (sourced 0 tct) answer s → IsRing r → IsUnderHost r.guest → hands_over r tct ≡ true → (HandLost r answer s × Round view r r.books.held (sourced 0 tct) answer s) ⊎ HandedOver r answer s
+pub hand_sent : {M : Type 0} (view : M → MediumView) (r s : RingView M) (answer : Arrival) → ControlledRound view r (sourced 0 tct) answer s → IsRing r → IsUnderHost r.guest → hands_over r tct ≡ true → (HandLost r answer s × Round view r r.books.held (sourced 0 tct) answer s) ⊎ HandedOver r answer s
 hand_sent view r s answer round ring under over = ⊎_elim (λ lost. inl (lost, lost_round view r s answer round ring under over lost)) inr (handed_over view r s answer round ring under over)

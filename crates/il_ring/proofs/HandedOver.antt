@@ -24,16 +24,17 @@ use Rattle.il_ring.specs.Books.{BooksView}
 use Rattle.il_ring.specs.HandedOver.{HandLost, HandedOver}
 use Rattle.il_ring.specs.Guests.{IsUnderHost, guest_devices, guest_mind, mind_of}
 use Rattle.il_ring.specs.Journeys.{Trip, trip}
-use Rattle.il_ring.specs.Lending.{LastPassage, GuestMeets, GuestReaches, LedRound, LedTrip, books_led, hands_over, last_talks, leads, led, led_answers, led_home}
+use Rattle.il_ring.specs.Lending.{LastPassage, GuestMeets, GuestReaches, ControlledRound, ControlledTrip, books_controlled, hands_over, last_talks, leads, controlled, controlled_answers, controlled_home}
 use Rattle.il_ring.specs.Lists.{First}
 use Rattle.il_ring.specs.Outcomes.{Obeys}
 use Rattle.il_ring.specs.Rings.{RingView, IsRing, arrived, arriving, devices_of}
 use Rattle.il_ring.proofs.EndsHome.{any_each}
-use Rattle.il_ring.proofs.LedAltered.{behind_later}
-use Rattle.il_ring.proofs.LedRounds.{led_party, led_to_last}
+use Rattle.il_ring.proofs.ControlledAltered.{after_later}
+use Rattle.il_ring.proofs.ControlledRounds.{controlled_party, controlled_to_last}
 use Rattle.il_ring.proofs.PassKinds.{Is, Any, plain_passes}
 use Rattle.il_ring.proofs.PassSteps.{goes_home}
-use Rattle.il_ring.proofs.Passes.{Goes, LostBehind, Through, goes_past, plain_hit}
+use Rattle.il_ring.proofs.Turnings.{some_flight}
+use Rattle.il_ring.proofs.Passes.{Goes, LostAfter, Through, goes_past, plain_hit}
 
 -- ---- the last of the devices
 
@@ -48,7 +49,7 @@ tct_hit (Some fault) at came = let clash = sym (plain_hit fault (sourced 0 tct) 
 
 -- ---- the round
 
-module _ {M : Type 0} (view : M → MediumView) (r s : RingView M) (answer : Arrival) (round : LedRound view r (sourced 0 tct) answer s) (ring : IsRing r) (under : IsUnderHost r.guest) (over : hands_over r tct ≡ true) where
+module _ {M : Type 0} (view : M → MediumView) (r s : RingView M) (answer : Arrival) (round : ControlledRound view r (sourced 0 tct) answer s) (ring : IsRing r) (under : IsUnderHost r.guest) (over : hands_over r tct ≡ true) where
   abbrev k : ℕ
   k = length (devices_of r)
 
@@ -59,11 +60,20 @@ module _ {M : Type 0} (view : M → MediumView) (r s : RingView M) (answer : Arr
   front_then = s.before ++ device_of s.drive.state ∷ round.boxed_then
 
   went : Goes (Is tct) Any (Obeys (message_of tct)) r.books.plan 1 r.books.crossings r.books.log (sourced 0 tct) front round.at_last front_then
-  went = goes_past (Is tct) Any (Obeys (message_of tct)) (plain_passes tct refl) r.books.plan 1 r.books.crossings r.books.log (sourced 0 tct) front front_then round.at_last (any_each 1 front) refl (led_to_last view r s (sourced 0 tct) answer round)
+  went = goes_past (Is tct) Any (Obeys (message_of tct)) (plain_passes tct refl) r.books.plan 1 r.books.crossings r.books.log (sourced 0 tct) front front_then round.at_last (any_each 1 front) refl (controlled_to_last view r s (sourced 0 tct) answer round)
+
+  -- TCT comes to the last party as it was sent
+  pub comes_so : (y : Flight) → round.at_last.flight ≡ Some y → y ≡ sourced 0 tct
+  comes_so y came = ⊎_elim
+      (λ (on : Through (Is tct) Any (Obeys (message_of tct)) r.books.plan 1 r.books.crossings r.books.log (sourced 0 tct) front round.at_last front_then).
+      some_flight y (sourced 0 tct) (sym came ∙ ap (λ (t : Trip). t.flight) on.trip_is ∙ ap (λ now. Some (record (sourced 0 tct) { now = now })) on.is_now))
+      (λ (lost : LostAfter (Is tct) Any (Obeys (message_of tct)) r.books.plan 1 r.books.crossings r.books.log (sourced 0 tct) front round.at_last front_then).
+      let clash : Some y ≡ None = sym came ∙ ap (λ (t : Trip). t.flight) lost.trip_is in cc)
+      went
 
   module _ (g h : GuestState) (is : round.guest ≡ Some g) (next : round.guest_then ≡ Some h) where
-    pub passage : GuestReaches r.books.plan k round.at_last r.books.kept round.at_last.flight g round.behind h
-    passage = subst (λ later. LastPassage r.books.plan k round.at_last r.books.kept (Some g) round.behind later) next (subst (λ guest. LastPassage r.books.plan k round.at_last r.books.kept guest round.behind round.guest_then) is round.past_last)
+    pub passage : GuestReaches r.books.plan k round.at_last r.books.kept round.at_last.flight g round.past_all h
+    passage = subst (λ later. LastPassage r.books.plan k round.at_last r.books.kept (Some g) round.past_all later) next (subst (λ guest. LastPassage r.books.plan k round.at_last r.books.kept guest round.past_all round.guest_then) is round.past_last)
 
     pub host : g.control ≡ control.Host
     host = subst IsUnderHost (round.mind ∙ ap guest_mind is) under
@@ -75,12 +85,12 @@ module _ {M : Type 0} (view : M → MediumView) (r s : RingView M) (answer : Arr
 
     pub many : k ≡ length front + 1
     many =
-        let all = led_party view r s (sourced 0 tct) answer round g is in
+        let all = controlled_party view r s (sourced 0 tct) answer round g is in
         let own = length-append r.before (device_of r.drive.state ∷ round.boxed) in
         omega (arith, all, own)
 
     -- nothing came to the last party
-    lost_so : (party : ℕ) → 1 ≤ party → party ≤ k → h ≡ g → round.behind.trip.flight ≡ None → round.behind.trip.log ≡ r.books.log ++ entry 0 tct (outcome.Lost party) ∷ [] → HandLost r answer s
+    lost_so : (party : ℕ) → 1 ≤ party → party ≤ k → h ≡ g → round.past_all.trip.flight ≡ None → round.past_all.trip.log ≡ r.books.log ++ entry 0 tct (outcome.Lost party) ∷ [] → HandLost r answer s
     lost_so party some on same none log =
         let guest_is : s.guest ≡ r.guest = round.mind_then ∙ ap guest_mind next ∙ ap (λ g. Some (mind_of g)) same ∙ sym (ap guest_mind is) ∙ sym round.mind in
         let lead : leads s.guest ≡ false = ap leads (round.mind_then ∙ ap guest_mind next) ∙ ap (λ (g : GuestState). is_leading g.control) same ∙ ap is_leading host in
@@ -88,20 +98,20 @@ module _ {M : Type 0} (view : M → MediumView) (r s : RingView M) (answer : Arr
           party = party;
           some = some;
           on_ring = on;
-          answer_is = round.answer_is ∙ ap (λ o. arrived (arriving r.books.plan round.behind.trip.crossings o)) none;
-          log_is = ap (λ (b : BooksView). b.log) (round.books ∙ ap₂ (λ lead o. led_home lead k (books_led r.books round.behind) o) lead none) ∙ log;
+          answer_is = round.answer_is ∙ ap (λ o. arrived (arriving r.books.plan round.past_all.trip.crossings o)) none;
+          log_is = ap (λ (b : BooksView). b.log) (round.books ∙ ap₂ (λ lead o. controlled_home lead k (books_controlled r.books round.past_all) o) lead none) ∙ log;
           guest_is = guest_is;
         }
 
     -- it came there
-    taken_so : (n : ℕ) (at : Flight) → at ≡ sourced 0 tct → (out : GuestOut) → GuestTakes g at.now out h → round.behind ≡ led_answers n r.books.log k at r.books.kept out → First (Obeys (message_of tct)) (length front) front front_then → HandedOver r answer s
-    taken_so n at same out takes behind obeyed =
+    taken_so : (n : ℕ) (at : Flight) → at ≡ sourced 0 tct → (out : GuestOut) → GuestTakes g at.now out h → round.past_all ≡ controlled_answers n r.books.log k at r.books.kept out → First (Obeys (message_of tct)) (length front) front front_then → HandedOver r answer s
+    taken_so n at same out takes past_is obeyed =
         let asked : takes_control g tct ≡ true = talks in
         let it = takes-it g h tct out host asked (subst (λ (f : Flight). GuestTakes g f.now out h) same takes) in
         let other : (0 == k) ≡ false = ne_eqb 0 k (λ e. omega (arith, e, many)) in
         let ended : ended_at (sourced 0 tct) k ≡ entry 0 tct (outcome.Taken k) = ap (λ own. entry 0 tct (if own then outcome.Back tct else outcome.Taken k)) other in
-        let goes : round.behind ≡ led (trip n (r.books.log ++ entry 0 tct (outcome.Taken k) ∷ []) (Some (sourced k nop))) r.books.kept =
-        behind ∙ ap₂ (λ at out. led_answers n r.books.log k at r.books.kept out) same it.answer ∙ ap (λ e. led (trip n (r.books.log ++ e ∷ []) (Some (sourced k nop))) r.books.kept) ended in
+        let goes : round.past_all ≡ controlled (trip n (r.books.log ++ entry 0 tct (outcome.Taken k) ∷ []) (Some (sourced k nop))) r.books.kept =
+        past_is ∙ ap₂ (λ at out. controlled_answers n r.books.log k at r.books.kept out) same it.answer ∙ ap (λ e. controlled (trip n (r.books.log ++ e ∷ []) (Some (sourced k nop))) r.books.kept) ended in
         let lead : leads s.guest ≡ true = ap leads (round.mind_then ∙ ap guest_mind next) ∙ ap is_leading it.control in
         record {
           boxed = round.boxed;
@@ -117,16 +127,16 @@ module _ {M : Type 0} (view : M → MediumView) (r s : RingView M) (answer : Arr
           roles = it.device.roles;
           obeyed = obeyed;
           out = (
-            round.behind.trip.crossings,
-            goes_home r s answer round.behind (entry 0 tct (outcome.Taken k) ∷ []) None (round.books ∙ ap (λ lead. led_home lead k (books_led r.books round.behind) round.behind.trip.flight) lead) round.answer_is
-                (ap (λ (l : LedTrip). l.kept) goes ∙ ring.kept) (sourced k nop) (ap (λ (l : LedTrip). l.trip.flight) goes) (ap (λ (l : LedTrip). l.trip.log) goes),
+            round.past_all.trip.crossings,
+            goes_home r s answer round.past_all (entry 0 tct (outcome.Taken k) ∷ []) None (round.books ∙ ap (λ lead. controlled_home lead k (books_controlled r.books round.past_all) round.past_all.trip.flight) lead) round.answer_is
+                (ap (λ (l : ControlledTrip). l.kept) goes ∙ ring.kept) (sourced k nop) (ap (λ (l : ControlledTrip). l.trip.flight) goes) (ap (λ (l : ControlledTrip). l.trip.log) goes),
           );
-          later = behind_later view r s (sourced 0 tct) answer round ring.crossings;
+          later = after_later view r s (sourced 0 tct) answer round ring.crossings;
         }
 
     by_hit : (n : ℕ) (o : Option Flight) → hit (next_fault r.books.plan n) (sourced 0 tct) ≡ o → First (Obeys (message_of tct)) (length front) front front_then
-        → GuestMeets k (trip n r.books.log (Some (sourced 0 tct))) r.books.kept (sourced 0 tct) o g round.behind h → HandLost r answer s ⊎ HandedOver r answer s
-    by_hit n None came obeyed met = inl (lost_so k (omega (arith, many)) (omega arith) met.1 (ap (λ (l : LedTrip). l.trip.flight) met.0) (ap (λ (l : LedTrip). l.trip.log) met.0))
+        → GuestMeets k (trip n r.books.log (Some (sourced 0 tct))) r.books.kept (sourced 0 tct) o g round.past_all h → HandLost r answer s ⊎ HandedOver r answer s
+    by_hit n None came obeyed met = inl (lost_so k (omega (arith, many)) (omega arith) met.1 (ap (λ (l : ControlledTrip). l.trip.flight) met.0) (ap (λ (l : ControlledTrip). l.trip.log) met.0))
     by_hit n (Some at) came obeyed met = inr (taken_so (risen n) at (tct_hit (next_fault r.books.plan n) at came) met.0 met.1 met.2 obeyed)
 
     pub handed_over_by : HandLost r answer s ⊎ HandedOver r answer s
@@ -134,10 +144,10 @@ module _ {M : Type 0} (view : M → MediumView) (r s : RingView M) (answer : Arr
         (λ (on : Through (Is tct) Any (Obeys (message_of tct)) r.books.plan 1 r.books.crossings r.books.log (sourced 0 tct) front round.at_last front_then).
         let n = risen_by (length front) r.books.crossings in
         let at : round.at_last ≡ trip n r.books.log (Some (sourced 0 tct)) = on.trip_is ∙ ap (λ now. trip n r.books.log (Some (record (sourced 0 tct) { now = now }))) on.is_now in
-        by_hit n (hit (next_fault r.books.plan n) (sourced 0 tct)) refl on.took (subst (λ (t : Trip). GuestReaches r.books.plan k t r.books.kept t.flight g round.behind h) at passage))
-        (λ (lost : LostBehind (Is tct) Any (Obeys (message_of tct)) r.books.plan 1 r.books.crossings r.books.log (sourced 0 tct) front round.at_last front_then).
-        let reached = subst (λ (t : Trip). GuestReaches r.books.plan k t r.books.kept t.flight g round.behind h) lost.trip_is passage in
-        inl (lost_so (1 + lost.reached) (omega arith) (omega (arith, lost.within, many)) reached.1 (ap (λ (l : LedTrip). l.trip.flight) reached.0) (ap (λ (l : LedTrip). l.trip.log) reached.0)))
+        by_hit n (hit (next_fault r.books.plan n) (sourced 0 tct)) refl on.took (subst (λ (t : Trip). GuestReaches r.books.plan k t r.books.kept t.flight g round.past_all h) at passage))
+        (λ (lost : LostAfter (Is tct) Any (Obeys (message_of tct)) r.books.plan 1 r.books.crossings r.books.log (sourced 0 tct) front round.at_last front_then).
+        let reached = subst (λ (t : Trip). GuestReaches r.books.plan k t r.books.kept t.flight g round.past_all h) lost.trip_is passage in
+        inl (lost_so (1 + lost.reached) (omega arith) (omega (arith, lost.within, many)) reached.1 (ap (λ (l : ControlledTrip). l.trip.flight) reached.0) (ap (λ (l : ControlledTrip). l.trip.log) reached.0)))
         went
 
   pub handed_over : HandLost r answer s ⊎ HandedOver r answer s
@@ -147,10 +157,10 @@ module _ {M : Type 0} (view : M → MediumView) (r s : RingView M) (answer : Arr
       by None later is next =
           let some = (and_parts (is_some r.guest) (last_talks r.after) (and_parts (is_frame tct tct) (is_some r.guest && last_talks r.after) over).1).0 in
           let clash = sym (ap is_some (round.mind ∙ ap guest_mind is)) ∙ some in cc
-      by (Some g) None is next = absurd (subst (λ later. LastPassage r.books.plan k round.at_last r.books.kept (Some g) round.behind later) next (subst (λ guest. LastPassage r.books.plan k round.at_last r.books.kept guest round.behind round.guest_then) is round.past_last))
+      by (Some g) None is next = absurd (subst (λ later. LastPassage r.books.plan k round.at_last r.books.kept (Some g) round.past_all later) next (subst (λ guest. LastPassage r.books.plan k round.at_last r.books.kept guest round.past_all round.guest_then) is round.past_last))
       by (Some g) (Some h) is next = handed_over_by g h is next
 
 -- by name
-pub over_sent : {M : Type 0} (view : M → MediumView) (r s : RingView M) (f : Frame) (answer : Arrival) → f ≡ tct → (hands_over r f ≡ true → LedRound view r (sourced 0 f) answer s) → IsRing r → IsUnderHost r.guest → hands_over r tct ≡ true → HandLost r answer s ⊎ HandedOver r answer s
+pub over_sent : {M : Type 0} (view : M → MediumView) (r s : RingView M) (f : Frame) (answer : Arrival) → f ≡ tct → (hands_over r f ≡ true → ControlledRound view r (sourced 0 f) answer s) → IsRing r → IsUnderHost r.guest → hands_over r tct ≡ true → HandLost r answer s ⊎ HandedOver r answer s
 over_sent view r s f answer is round ring under over =
-    handed_over view r s answer (subst (λ f. LedRound view r (sourced 0 f) answer s) is (round (ap (hands_over r) is ∙ over))) ring under over
+    handed_over view r s answer (subst (λ f. ControlledRound view r (sourced 0 f) answer s) is (round (ap (hands_over r) is ∙ over))) ring under over

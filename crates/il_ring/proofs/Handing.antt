@@ -1,5 +1,5 @@
--- No device hands control over: behind each, a frame that does not do so is one that does not.
-use Rattle.std.proofs.Common.{◌≡◌, ◌≤◌, ◌==◌, ℕ, suc, Bool, true, false, List, [], ◌∷◌, Option, Some, None, refl, sym, ap, subst, ◌∙◌}
+-- No device hands control over: after each, a frame that does not do so is one that does not.
+use Rattle.std.proofs.Common.{◌≡◌, ◌≤◌, ◌==◌, ℕ, Bool, true, false, List, [], ◌∷◌, Option, Some, None, refl, sym, ap, subst, ◌∙◌}
 use Rattle.std.specs.Prelude.{◌-◌, if◌then◌else◌}
 use Rattle.il_frames.specs.declared.entry.Entry.{Entry}
 use Rattle.il_frames.specs.declared.frame.Class.{Class}
@@ -12,7 +12,6 @@ use Rattle.il_frames.specs.Messages.{Row, One, Group, message_in, commands, read
 use Rattle.il_device.specs.declared.device.Out.{Out}
 use Rattle.il_device.specs.declared.device.Out.TheVariants.{Pass, Source}
 use Rattle.il_device.specs.declared.roles.Roles.{Roles}
-use Rattle.il_device.specs.Roles.{takes_address}
 use Rattle.il_device.specs.State.{DeviceState, risen}
 use Rattle.il_device.specs.Takes.{Takes}
 use Rattle.il_guest.specs.Frames.{tct}
@@ -29,30 +28,16 @@ use Rattle.il_ring.specs.Flights.{sourced, hit}
 use Rattle.il_ring.specs.Journeys.{Trip, answered, Passage, Journey, is_exact, is_identify_class}
 use Rattle.il_ring.proofs.Passing.{Carries, Exactly, AsData, AsIdentify, carries_on}
 use Rattle.il_ring.proofs.Journeys.{past_devices, past_party}
+use Rattle.il_ring.proofs.MessageKinds.{AllRows, in_rows, never_data, never_identify, never_passed}
 use Rattle.il_ring.proofs.RoundRoles.{IsQuiet, hit_carries, sent_quiet}
 
 -- ---- each frame carries its own message
 
--- no row of the table is a data or identify message
-abbrev AllExact : List Row → Type 0
-AllExact [] = Unit {0}
-AllExact (One at m ∷ rows) = (is_exact m ≡ true) × AllExact rows
-AllExact (Group first count m ∷ rows) = ((n : ℕ) → is_exact (m n) ≡ true) × AllExact rows
-
-exact_if : (b : Bool) (m n : Message) → is_exact m ≡ true → is_exact n ≡ true → is_exact (if b then m else n) ≡ true
-exact_if true m n p q = p
-exact_if false m n p q = q
-
-exact_in : (rows : List Row) (byte : ℕ) (other : ℕ → Message) → AllExact rows → ((n : ℕ) → is_exact (other n) ≡ true) → is_exact (message_in rows byte other) ≡ true
-exact_in [] byte other exact rest = rest byte
-exact_in (One at m ∷ rows) byte other exact rest = exact_if (byte == at) m (message_in rows byte other) exact.0 (exact_in rows byte other exact.1 rest)
-exact_in (Group first count m ∷ rows) byte other exact rest =
-    exact_if _ (m (byte - first)) (message_in rows byte other) (exact.0 (byte - first)) (exact_in rows byte other exact.1 rest)
-
-ready_exact : AllExact ready_messages
+-- no row of the tables is a data or identify message
+ready_exact : AllRows is_exact ready_messages
 ready_exact = (refl, (refl, (refl, (refl, (refl, (refl, (refl, (refl, (refl, ((λ n. refl), (refl, tt)))))))))))
 
-commands_exact : AllExact commands
+commands_exact : AllRows is_exact commands
 commands_exact = (refl, (refl, (refl, (refl, (refl, (refl, (refl, (refl, (refl, (refl, (refl, ((λ n. refl), (refl, ((λ n. refl), (refl, ((λ n. refl), ((λ n. refl), (refl, (refl, (refl, (refl, (refl, ((λ n. refl), ((λ n. refl), tt))))))))))))))))))))))))
 
 carries_class : (k : Class) (byte : ℕ) → Carries (message_at k byte) (framed k byte)
@@ -60,8 +45,8 @@ carries_class class.Dab byte = AsData refl refl
 carries_class class.Dsr byte = AsData refl refl
 carries_class class.End byte = AsData refl refl
 carries_class class.Esr byte = AsData refl refl
-carries_class class.Cmd byte = Exactly (exact_in commands byte msg.OtherCmd commands_exact (λ n. refl)) refl
-carries_class class.Rdy byte = Exactly (exact_in ready_messages byte msg.OtherRdy ready_exact (λ n. refl)) refl
+carries_class class.Cmd byte = Exactly (in_rows is_exact commands byte msg.OtherCmd commands_exact (λ n. refl)) refl
+carries_class class.Rdy byte = Exactly (in_rows is_exact ready_messages byte msg.OtherRdy ready_exact (λ n. refl)) refl
 carries_class class.Idy byte = AsIdentify refl refl
 carries_class class.Isr byte = AsIdentify refl refl
 
@@ -77,6 +62,16 @@ pub record NeverMade (bad : Message → Bool) : Type 0 where
   pub passed : (m : Message) (r : Roles) → bad m ≡ false → bad (passed_on m r) ≡ false
   pub sent : (f : Flight) (quiet : IsQuiet f) → bad quiet.message ≡ false
 
+-- a kind that holds of none of these messages, and of none that a device sends
+pub never_kind : (bad : Message → Bool) → ((n : ℕ) → bad (msg.Dab n) ≡ false) → ((n : ℕ) → bad (msg.Dsr n) ≡ false) → ((n : ℕ) → bad (msg.End n) ≡ false) → ((n : ℕ) → bad (msg.Esr n) ≡ false)
+    → ((n : ℕ) → bad (msg.Idy n) ≡ false) → ((n : ℕ) → bad (msg.Isr n) ≡ false) → ((n : ℕ) → bad (msg.Aad n) ≡ false) → bad msg.Iaa ≡ false → ((f : Flight) (quiet : IsQuiet f) → bad quiet.message ≡ false) → NeverMade bad
+never_kind bad dab dsr last esr idy isr aad iaa sent = record {
+  no_data = never_data bad dab dsr last esr;
+  no_identify = never_identify bad idy isr;
+  passed = never_passed bad aad iaa;
+  sent = sent;
+}
+
 -- so holds of the frame that is on its way, if any
 abbrev pub OnWay : (Frame → Type 0) → Option Flight → Type 0
 OnWay P None = Unit {0}
@@ -86,7 +81,7 @@ module _ (bad : Message → Bool) (never : NeverMade bad) where
   abbrev Lacks : Frame → Type 0
   Lacks f = bad (message_of f) ≡ false
 
-  carried_lacks : (m : Message) (f : Frame) → Carries m f → bad m ≡ false → Lacks f
+  pub carried_lacks : (m : Message) (f : Frame) → Carries m f → bad m ≡ false → Lacks f
   carried_lacks m f (Exactly exact is) none = ap bad is ∙ none
   carried_lacks m f (AsData keeps is) none = never.no_data (class_of f) (byte_of f) is
   carried_lacks m f (AsIdentify keeps is) none = never.no_identify (class_of f) (byte_of f) is
@@ -113,61 +108,19 @@ module _ (bad : Message → Bool) (never : NeverMade bad) where
 
 -- ---- TCT and IFC are such
 
-tct_no_data : (k : Class) (byte : ℕ) → is_data_class k ≡ true → is_tct (message_at k byte) ≡ false
-tct_no_data class.Dab byte is = refl
-tct_no_data class.Dsr byte is = refl
-tct_no_data class.End byte is = refl
-tct_no_data class.Esr byte is = refl
-tct_no_data _ byte is = cc
-
-tct_no_identify : (k : Class) (byte : ℕ) → is_identify_class k ≡ true → is_tct (message_at k byte) ≡ false
-tct_no_identify class.Idy byte is = refl
-tct_no_identify class.Isr byte is = refl
-tct_no_identify _ byte is = cc
-
-tct_passed : (m : Message) (r : Roles) → is_tct m ≡ false → is_tct (passed_on m r) ≡ false
-tct_passed (msg.Aad a) r none = by_test (takes_address r.address a) (a == 30)
-  where
-    by_test : (takes last : Bool) → is_tct (if takes then (if last then msg.Iaa else msg.Aad (suc a)) else msg.Aad a) ≡ false
-    by_test true true = refl
-    by_test true false = refl
-    by_test false last = refl
-tct_passed m r none = none
-
 pub tct_never : NeverMade is_tct
-tct_never = record { no_data = tct_no_data; no_identify = tct_no_identify; passed = tct_passed; sent = λ f quiet. quiet.no_control }
-
-ifc_no_data : (k : Class) (byte : ℕ) → is_data_class k ≡ true → is_ifc (message_at k byte) ≡ false
-ifc_no_data class.Dab byte is = refl
-ifc_no_data class.Dsr byte is = refl
-ifc_no_data class.End byte is = refl
-ifc_no_data class.Esr byte is = refl
-ifc_no_data _ byte is = cc
-
-ifc_no_identify : (k : Class) (byte : ℕ) → is_identify_class k ≡ true → is_ifc (message_at k byte) ≡ false
-ifc_no_identify class.Idy byte is = refl
-ifc_no_identify class.Isr byte is = refl
-ifc_no_identify _ byte is = cc
-
-ifc_passed : (m : Message) (r : Roles) → is_ifc m ≡ false → is_ifc (passed_on m r) ≡ false
-ifc_passed (msg.Aad a) r none = by_test (takes_address r.address a) (a == 30)
-  where
-    by_test : (takes last : Bool) → is_ifc (if takes then (if last then msg.Iaa else msg.Aad (suc a)) else msg.Aad a) ≡ false
-    by_test true true = refl
-    by_test true false = refl
-    by_test false last = refl
-ifc_passed m r none = none
+tct_never = never_kind is_tct (λ n. refl) (λ n. refl) (λ n. refl) (λ n. refl) (λ n. refl) (λ n. refl) (λ n. refl) refl (λ f quiet. quiet.no_control)
 
 ifc_changes : (m : Message) → changes_roles m ≡ false → is_ifc m ≡ false
 ifc_changes msg.Ifc keeps = cc
 ifc_changes m keeps = refl
 
 pub ifc_never : NeverMade is_ifc
-ifc_never = record { no_data = ifc_no_data; no_identify = ifc_no_identify; passed = ifc_passed; sent = λ f quiet. ifc_changes quiet.message quiet.keeps }
+ifc_never = never_kind is_ifc (λ n. refl) (λ n. refl) (λ n. refl) (λ n. refl) (λ n. refl) (λ n. refl) (λ n. refl) refl (λ f quiet. ifc_changes quiet.message quiet.keeps)
 
 -- ---- TCT alone hands control over
 
--- where the byte is that of a row, its message does not
+-- if the byte is that of a row, its message does not
 abbrev AllKeep : ℕ → List Row → Type 0
 AllKeep byte [] = Unit {0}
 AllKeep byte (One at m ∷ rows) = ((byte == at) ≡ true → is_tct m ≡ false) × AllKeep byte rows
@@ -205,7 +158,7 @@ hands_sent f flight is other = ap (λ flight. is_tct (message_of flight.now)) is
 
 -- data and end frames
 pub data_hands : (f : Frame) → is_data f ≡ true → is_tct (message_of f) ≡ false
-data_hands f is = tct_no_data (class_of f) (byte_of f) is
+data_hands f is = tct_never.no_data (class_of f) (byte_of f) is
 
 pub data_no_ifc : (f : Frame) → is_data f ≡ true → is_ifc (message_of f) ≡ false
-data_no_ifc f is = ifc_no_data (class_of f) (byte_of f) is
+data_no_ifc f is = ifc_never.no_data (class_of f) (byte_of f) is

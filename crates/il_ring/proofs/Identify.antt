@@ -43,10 +43,10 @@ identify_no_data class.Idy e = refl
 identify_no_data class.Isr e = refl
 identify_no_data _ e = cc
 
--- it is an identify frame, and behind the devices from party k on it is this one
+-- it is an identify frame, and after the devices from party k on it is this one
 pub record LeadsTo (all : List DeviceState) (end : Frame) (k : ℕ) (g : Frame) : Type 0 where
   pub identify : is_identify g ≡ true
-  pub behind : identified_along (drop (k - 1) all) g ≡ end
+  pub after : identified_along (drop (k - 1) all) g ≡ end
 
 -- party k of all
 abbrev pub IsParty : List DeviceState → ℕ → DeviceState → Type 0
@@ -71,7 +71,7 @@ identify_passes all end = record {
         goes,
         record {
           identify = ap is_identify (sym (identify_passed d.roles d.assignment d.wants (class_of g) (byte_of g) is)) ∙ identify_class d.roles d.assignment d.wants (class_of g) (byte_of g) is;
-          behind = ap (λ j. identified_along (drop j all) h) next ∙ ap (λ rest. identified_along rest g) (sym party.1) ∙ leads.behind;
+          after = ap (λ j. identified_along (drop j all) h) next ∙ ap (λ rest. identified_along rest g) (sym party.1) ∙ leads.after;
         },
         (obeyed.nothing, obeyed.own ∙ kept.0, place, wants),
       );

@@ -5,14 +5,18 @@ use Rattle.il_frames.specs.declared.frame.Frame.{Frame}
 use Rattle.il_device.specs.declared.device.Out.{Out}
 use Rattle.il_device.specs.State.{DeviceState, risen}
 use Rattle.il_device.specs.Takes.{Takes}
+use Rattle.il_guest.specs.declared.guest.GuestOut.{GuestOut}
+use Rattle.il_guest.specs.State.{GuestState}
+use Rattle.il_guest.specs.Takes.{GuestTakes}
 use Rattle.il_ring.specs.declared.flight.Flight.{Flight}
 use Rattle.il_ring.specs.declared.plan.Planned.{Planned}
 use Rattle.il_ring.specs.Flights.{hit}
 use Rattle.il_ring.specs.Journeys.{Trip, answered, missed, Meets, Reaches, Passage, Journey}
+use Rattle.il_ring.specs.Lending.{ControlledTrip, GuestMeets, GuestReaches, controlled, controlled_answers}
 use Rattle.il_ring.specs.Lists.{First}
 use Rattle.il_ring.specs.Plans.{next_fault}
 
--- one behind the other
+-- one after the other
 pub Journey-append : (plan : List Planned) (k p : ℕ) (t u v : Trip) (ds es xs ys : List DeviceState) → p ≡ k + length ds → Journey plan k t ds u es → Journey plan p u xs v ys → Journey plan k t (ds ++ xs) v (es ++ ys)
 Journey-append plan k p t u v [] [] xs ys at first more =
     let same : p ≡ k = omega (arith, at) in
@@ -44,8 +48,8 @@ rest_more i old now e rest = drop-set-lt (i + 1) now i e (omega arith) ∙ sym (
 
 -- ---- past one party, and past devices
 
--- What holds past party k, of the trip and of the party's state, if it holds where no frame is on its way, where the frame was lost on the link to
--- that party, and where the party answered it.
+-- What holds past party k, of the trip and of the party's state, if it holds when no frame is on its way, when the frame was lost on the link to
+-- that party, and when the party answered it.
 module _ {D : Type 0} (takes : D → Frame → Out → D → Type 0) (plan : List Planned) (k : ℕ) (t : Trip) (d : D) (P : Trip → D → Type 0) (none : t.flight ≡ None → P t d)
     (lost : (f : Flight) → t.flight ≡ Some f → hit (next_fault plan t.crossings) f ≡ None → P (missed (risen t.crossings) t.log k f) d)
     (answers : (f g : Flight) (out : Out) (e : D) → t.flight ≡ Some f → hit (next_fault plan t.crossings) f ≡ Some g → takes d g.now out e → P (answered (risen t.crossings) t.log k g out) e) (u : Trip) (e : D) where
@@ -60,7 +64,7 @@ module _ {D : Type 0} (takes : D → Frame → Out → D → Type 0) (plan : Lis
   pub past_party : Passage takes plan k t d u e → P u e
   past_party passage = reached_by t.flight refl passage
 
--- Past devices, the first of which is party k, `least` or a later one: I holds of the trip as it comes to each party and behind the last, and R of each
+-- Past devices, the first of which is party k, `least` or a later one: I holds of the trip as it comes to each party and after the last, and R of each
 -- device, if one party keeps to that.
 module _ (plan : List Planned) (least : ℕ) (I : ℕ → Trip → Type 0) (R : DeviceState → DeviceState → Type 0) (one : (k : ℕ) (t u : Trip) (d e : DeviceState) → least ≤ k → I k t → Passage Takes plan k t d u e → I (k + 1) u × R d e) where
   pub past_devices : (k : ℕ) (t u : Trip) (ds es : List DeviceState) → least ≤ k → I k t → Journey plan k t ds u es → I (k + length ds) u × First R (length ds) ds es
@@ -72,3 +76,19 @@ module _ (plan : List Planned) (least : ℕ) (I : ℕ → Trip → Type 0) (R : 
       (subst (λ k. I k u) far more.0, (first.1, more.1))
   past_devices k t u [] (e ∷ es) some before journey = absurd journey
   past_devices k t u (d ∷ ds) [] some before journey = absurd journey
+
+-- The same past party k if that is a second controller: what holds of the trip, of the frame that it keeps, and of its state.
+module _ (plan : List Planned) (k : ℕ) (t : Trip) (kept : Option Flight) (g : GuestState) (P : ControlledTrip → GuestState → Type 0) (none : t.flight ≡ None → P (controlled t kept) g)
+    (lost : (f : Flight) → t.flight ≡ Some f → hit (next_fault plan t.crossings) f ≡ None → P (controlled (missed (risen t.crossings) t.log k f) kept) g)
+    (answers : (f at : Flight) (out : GuestOut) (h : GuestState) → t.flight ≡ Some f → hit (next_fault plan t.crossings) f ≡ Some at → GuestTakes g at.now out h → P (controlled_answers (risen t.crossings) t.log k at kept out) h)
+    (u : ControlledTrip) (h : GuestState) where
+  guest_met : (f : Flight) (o : Option Flight) → t.flight ≡ Some f → hit (next_fault plan t.crossings) f ≡ o → GuestMeets k t kept f o g u h → P u h
+  guest_met f None is gone met = subst (λ u. P u h) (sym met.0) (subst (λ h. P (controlled (missed (risen t.crossings) t.log k f) kept) h) (sym met.1) (lost f is gone))
+  guest_met f (Some at) is came met = subst (λ u. P u h) (sym met.2) (answers f at met.0 h is came met.1)
+
+  guest_reached : (o : Option Flight) → t.flight ≡ o → GuestReaches plan k t kept o g u h → P u h
+  guest_reached None is reached = subst (λ u. P u h) (sym reached.0) (subst (λ h. P (controlled t kept) h) (sym reached.1) (none is))
+  guest_reached (Some f) is reached = guest_met f (hit (next_fault plan t.crossings) f) is refl reached
+
+  pub past_guest : GuestReaches plan k t kept t.flight g u h → P u h
+  past_guest reached = guest_reached t.flight refl reached

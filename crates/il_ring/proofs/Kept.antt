@@ -76,7 +76,7 @@ stays_keeps d e is = record {
 passage_keeps : (plan : List Planned) (k : ℕ) (t : Trip) (d e : DeviceState) (u : Trip) → Passage Takes plan k t d u e → Keeps d e
 passage_keeps plan k t d e u passage = past_party Takes plan k t d (λ u e. Keeps d e) (λ is. stays_keeps d d refl) (λ f is gone. stays_keeps d d refl) (λ f g out e is came takes. takes_keeps d e g.now out takes) u e passage
 
--- each device of a journey keeps its accessory ID and its room, and hears nothing where it does not listen
+-- each device of a journey keeps its accessory ID and its room, and hears nothing if it does not listen
 pub journey_keeps : (plan : List Planned) (k : ℕ) (t u : Trip) (ds es : List DeviceState) → Journey plan k t ds u es → AllKeep ds es
 journey_keeps plan k t u [] [] journey = tt
 journey_keeps plan k t u (d ∷ ds) (e ∷ es) journey = (passage_keeps plan k t d e journey.0 journey.1, journey_keeps plan (k + 1) journey.0 u ds es journey.2)

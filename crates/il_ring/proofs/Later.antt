@@ -1,4 +1,4 @@
--- Crossings only go up along a round, so that what is met on a part of it is met on the whole.
+-- Crossings only go up along a round, so that what is reached on a part of it is reached on the whole.
 use Rattle.std.proofs.Common.{◌≡◌, ◌≢◌, ◌≤◌, ◌+◌, ℕ, Bool, true, false, List, [], Option, Some, None, refl, sym, ap, ◌∙◌, arith}
 use Rattle.std.specs.Prelude.{◌==◌}
 use Rattle.il_frames.specs.declared.frame.Frame.{Frame}
@@ -23,7 +23,7 @@ use Rattle.il_ring.proofs.Faults.{met_at}
 use Rattle.il_ring.proofs.Counts.{risen_by-add}
 use Rattle.il_ring.proofs.Journeys.{past_devices, past_party}
 
--- so many links more
+-- this many links more
 abbrev pub Later : ℕ → ℕ → Type 0
 Later n m = (links : ℕ) × (m ≡ risen_by links n)
 
@@ -62,12 +62,12 @@ home_later : (b : BooksView) (flight : Option Flight) → Later b.crossings (hom
 home_later b None = later_same b.crossings b.crossings refl
 home_later b (Some f) = later_one b.crossings (home b (Some f)).crossings (link_count (record b { crossings = risen b.crossings }) f (hit (next_fault b.plan b.crossings) f))
 
-pub end_later : {M : Type 0} (view : M → MediumView) (r s : RingView M) (held : Option Flight) (f : Flight) (answer : Arrival) (round : Round view r held f answer s) → Later round.behind.crossings s.books.crossings
+pub end_later : {M : Type 0} (view : M → MediumView) (r s : RingView M) (held : Option Flight) (f : Flight) (answer : Arrival) (round : Round view r held f answer s) → Later round.past_all.crossings s.books.crossings
 end_later view r s held f answer round =
-    let last = home_later (books_at (record r.books { held = held }) round.behind) round.behind.flight in
+    let last = home_later (books_at (record r.books { held = held }) round.past_all) round.past_all.flight in
     (last.0, ap (λ (b : BooksView). b.crossings) round.books ∙ last.1)
 
--- a planned hop that is met on the way to a count is met behind it too
+-- a planned hop that is reached on the way to a count is reached after it too
 pub met_later : {M : Type 0} (r s : RingView M) (n hop m : ℕ) → r.books.crossings ≤ last_crossing → n ≡ risen_by m r.books.crossings → hop + 1 ≤ m → next_fault r.books.plan (risen_by hop r.books.crossings) ≢ None
     → Later n s.books.crossings → met_between r s ≢ []
 met_later r s n hop m within at before planned later =

@@ -12,12 +12,12 @@ use Rattle.loop_model.specs.Exchanges.{Answer, Echo, NotTaken, Stopped, ToItsEnd
 use Rattle.loop_model.specs.Leading.{are_commands_led, controller_after, has_one_talker_led}
 use Rattle.loop_model.specs.Roles.{all_without_roles}
 use Rattle.il_ring.specs.Statuses.{answers_always}
-use Rattle.il_ring.specs.Lends.{Lend, NoTaker, NoTakerCut, Lent, LentCut, LentLost, AtHost, BreaksOff, ByteLost, is_lend, is_whole_lend, keeps_control, lend_entries, tells_own, took_back, was_taken}
+use Rattle.il_ring.specs.Lends.{Lend, NoTaker, NoTakerCut, Lent, LentCut, LentLost, AtHost, BreaksOff, ByteLost, is_lend, is_whole_lend, keeps_control, lend_entries, reports_own, took_back, was_taken}
 
 abbrev asked : List ℕ
 asked = 1 ∷ 2 ∷ []
 
--- address 1 tells the status 0, and address 2 none
+-- address 1 reports the status 0, and address 2 none
 abbrev zero_status : Echo
 zero_status = record { sent = framed class.Dab 0; back = framed class.Dab 0 }
 
@@ -38,7 +38,7 @@ ten = Lent 3 answers 10
 ten_is_lend : is_lend 3 asked 10 ten ≡ true
 ten_is_lend = refl
 
--- the tenth frame is the UNT, and stands at the host
+-- the tenth frame is the UNT, and is at the host
 ten_trace : trace ten ≡ lines (codes "~ 0 UNL = UNL" ∷ codes "~ 0 RFC = RFC" ∷ codes "~ 0 TAD 03 = TAD 03" ∷ codes "~ 0 RFC = RFC" ∷ codes "~ 0 TCT > 3"
     ∷ codes "~ 3 NOP = NOP" ∷ codes "~ 3 RFC = RFC" ∷ codes "~ 3 UNL = UNL" ∷ codes "~ 3 RFC = RFC" ∷ codes "~ 3 TAD 01 = TAD 01" ∷ codes "~ 3 RFC = RFC"
     ∷ codes "~ 3 SST > 1" ∷ codes "~ 3 NRD = NRD" ∷ codes "~ 1 DAB 00 = DAB 00" ∷ codes "~ 1 ETO > 3" ∷ codes "~ 3 UNT > 0"
@@ -51,9 +51,9 @@ one_too_many : (is_lend 3 asked 11 ten ≡ false) × (is_lend 3 asked 9 ten ≡ 
     × (is_lend 3 asked 9 (Lent 3 answers 9) ≡ false)
 one_too_many = (refl, refl, refl, refl)
 
--- the drive, party 1, answers wherever it is asked: it is no lend in which its SST came back, although that is told by nobody else
+-- the drive, party 1, answers wherever it is asked: it is no lend in which its SST came back, although nobody else reports that
 silent_drive : (is_lend 3 asked 60 (LentCut 3 ((NotTaken ∷ []) ∷ []) 8 (BreaksOff (FrameLost 0))) ≡ true)
-    × (tells_own asked (LentCut 3 ((NotTaken ∷ []) ∷ []) 8 (BreaksOff (FrameLost 0))) ≡ true)
+    × (reports_own asked (LentCut 3 ((NotTaken ∷ []) ∷ []) 8 (BreaksOff (FrameLost 0))) ≡ true)
     × (answers_always 3 1 None (lend_entries 3 asked (LentCut 3 ((NotTaken ∷ []) ∷ []) 8 (BreaksOff (FrameLost 0)))) ≡ false)
     × (answers_always 3 2 None (lend_entries 3 asked (LentCut 3 ((NotTaken ∷ []) ∷ []) 8 (BreaksOff (FrameLost 0)))) ≡ true)
     × (answers_always 3 1 None (lend_entries 3 asked ten) ≡ true)
@@ -112,13 +112,13 @@ no_breaks : (is_lend 3 asked 60 (LentCut 3 answers 5 (BreaksOff (HostAltered (fr
     × (is_lend 3 asked 60 (LentCut 3 answers 6 (ByteLost 3)) ≡ false) × (is_lend 3 asked 60 (Lent 3 ((ToItsEnd 1 (zero_status ∷ []) ∷ []) ∷ []) 0) ≡ false)
 no_breaks = (refl, refl, refl, refl)
 
--- no rounds break off behind the last frame that the host waits for: the tenth frame, UNT, is lost before it comes past the host, or behind it
+-- no rounds break off after the last frame that the host waits for: the tenth frame, UNT, is lost before it comes past the host, or after it
 broken_in_time : (is_lend 3 asked 10 (LentCut 3 answers 10 (BreaksOff (FrameLost 0))) ≡ true)
     × (is_lend 3 asked 10 (LentCut 3 answers 10 (BreaksOff (FrameLost 1))) ≡ false)
     × (is_lend 3 asked 11 (LentCut 3 answers 10 (BreaksOff (FrameLost 1))) ≡ true)
 broken_in_time = (refl, refl, refl)
 
--- what is lost is lost on its way: no party stands behind the third; the byte of party 1 goes first to party 2 and 3, and then to the host and
+-- what is lost is lost on its way: no party comes after the third; the byte of party 1 goes first to party 2 and 3, and then to the host and
 -- to party 1; ETO and ETE go to party 2 and 3 alone
 on_the_way : (is_lend 3 asked 60 (LentCut 3 answers 5 (BreaksOff (FrameLost 3))) ≡ true)
     × (is_lend 3 asked 60 (LentCut 3 answers 5 (BreaksOff (FrameLost 4))) ≡ false)
@@ -139,7 +139,7 @@ hosts_on_the_way = (refl, refl, refl, refl)
 whole : (is_whole_lend ten ≡ true) × (is_whole_lend (NoTaker 2) ≡ true) × (is_whole_lend (LentLost 3 answers 10 0 1) ≡ false)
 whole = (refl, refl, refl)
 
--- IFC came back where RFC alone is lost
+-- IFC came back if RFC alone is lost
 back : (took_back (LentLost 3 answers 10 1 2) ≡ true) × (took_back (LentLost 3 answers 10 0 2) ≡ false)
 back = (refl, refl)
 
@@ -151,8 +151,8 @@ from_power_on lend = commanded 0 ifc ++ commanded 0 aau ++ entry 0 (aad 1) (outc
 taken_back : controller_after 0 (from_power_on ten) ≡ 0
 taken_back = refl
 
-still_led : controller_after 0 (from_power_on (LentCut 3 answers 7 (ByteLost 3))) ≡ 3
-still_led = refl
+still_controlled : controller_after 0 (from_power_on (LentCut 3 answers 7 (ByteLost 3))) ≡ 3
+still_controlled = refl
 
 keeps : (keeps_control (LentCut 3 answers 7 (ByteLost 3)) ≡ true) × (keeps_control (LentLost 3 answers 10 0 1) ≡ false)
     × (keeps_control (NoTakerCut 2 4 0) ≡ false)
@@ -165,15 +165,15 @@ one_talker : (has_one_talker_led 0 (all_without_roles 3) (from_power_on ten) ≡
     × (has_one_talker_led 0 (all_without_roles 3) (from_power_on (LentCut 3 answers 7 (BreaksOff (FrameLost 2)))) ≡ true)
 one_talker = (refl, refl, refl)
 
--- where a status is told as by a party behind the second controller, nobody talks as it is spoken
+-- if a status is reported as by a party after the second controller, nobody talks as it is spoken
 abbrev beyond : Lend
 beyond = LentCut 3 ((Stopped 5 [] zero_status ∷ []) ∷ []) 10 (BreaksOff (FrameLost 0))
 
-from_beyond : (is_lend 3 (5 ∷ []) 60 beyond ≡ false) × (tells_own (5 ∷ []) beyond ≡ true)
+from_beyond : (is_lend 3 (5 ∷ []) 60 beyond ≡ false) × (reports_own (5 ∷ []) beyond ≡ true)
     × (has_one_talker_led 0 (all_without_roles 3) (commanded 0 ifc ++ commanded 0 aau ++ entry 0 (aad 1) (outcome.Back (aad 4)) ∷ lend_entries 3 (5 ∷ []) beyond) ≡ false)
 from_beyond = (refl, refl, refl)
 
--- where another device than the second controller was told to talk, it may talk on beside the one that is asked
+-- if another device than the second controller was told to talk, it may talk on beside the one that is asked
 two_talk : (was_taken (LentCut 2 answers 4 (BreaksOff (FrameLost 2))) ≡ true) × (is_lend 3 asked 60 (LentCut 2 answers 4 (BreaksOff (FrameLost 2))) ≡ true)
     × (has_one_talker_led 0 (all_without_roles 3) (from_power_on (LentCut 2 answers 4 (BreaksOff (FrameLost 2)))) ≡ false)
 two_talk = (refl, refl, refl)

@@ -1,15 +1,14 @@
 -- No frame is held at the end of a lend: an NRD of the host, which alone would leave one, is none of its entries.
-use Rattle.std.proofs.Common.{◌≡◌, ◌∙◌, ◌++◌, ◌==◌, ◌&&◌, ℕ, zero, suc, Bool, true, false, not, List, [], ◌∷◌, Option, None, refl, ap}
+use Rattle.std.proofs.Common.{◌≡◌, ◌∙◌, ◌++◌, ◌==◌, ◌&&◌, ℕ, Bool, true, false, not, List, [], ◌∷◌, Option, None, refl, ap}
 use Rattle.std.specs.List.{list_all}
 use Rattle.std.proofs.lemmas.Bool.{and_from, and_parts, not-true}
 use Rattle.std.proofs.lemmas.List.Folds.{list_all-append}
 use Rattle.il_frames.specs.declared.entry.Entry.{Entry}
-use Rattle.il_frames.specs.declared.entry.Outcome.TheVariants as outcome
-use Rattle.il_frames.specs.NamedFrames.{entry, ifc, is_frame, is_lost, is_lost_nrd, is_no_nrd, nrd}
+use Rattle.il_frames.specs.NamedFrames.{ifc, is_frame, is_lost, is_lost_nrd, is_no_nrd, nrd}
 use Rattle.loop_model.specs.Exchanges.{Answer, FrameLost, commanded, cut_at}
 use Rattle.loop_model.specs.Reach.{held_at_end, sourcing_after}
 use Rattle.il_ring.specs.Lends.{RoundsEnd, AtHost, Lend, NoTaker, NoTakerCut, Lent, LentCut, LentLost, are_rounds, ended_after, handed_entries, is_lend, lend_entries, refused_entries, rounds_entries}
-use Rattle.il_ring.proofs.LendLaws.{are_lent, is_entry_led, rounds_are_led}
+use Rattle.il_ring.proofs.LendLaws.{are_lent, cut_all, is_entry_controlled, rounds_are_controlled}
 
 -- the entry leaves no frame held
 abbrev pub is_unheld : Entry → Bool
@@ -25,7 +24,7 @@ unheld true true lost none = cc
 unheld true false lost none = refl
 unheld false nrds lost none = refl
 
--- whatever becomes of the frame, where it is no NRD
+-- whatever becomes of the frame, if it is no NRD
 no_nrd_unheld : (es : List Entry) → list_all is_no_nrd es ≡ true → list_all is_unheld es ≡ true
 no_nrd_unheld [] all = refl
 no_nrd_unheld (e ∷ es) all =
@@ -33,19 +32,13 @@ no_nrd_unheld (e ∷ es) all =
     and_from (is_unheld e) (list_all is_unheld es) (unheld (e.source == 0) (is_frame e.frame nrd) (is_lost e.outcome) parts.0) (no_nrd_unheld es parts.1)
 
 cut_unheld : (es : List Entry) (n q : ℕ) → list_all is_no_nrd es ≡ true → list_all is_unheld (cut_at es n (FrameLost q)) ≡ true
-cut_unheld [] n q all = refl
-cut_unheld (e ∷ es) zero q all =
-    let parts = and_parts (is_no_nrd e) (list_all is_no_nrd es) all in
-    and_from (is_unheld (entry e.source e.frame (outcome.Lost q))) true (unheld (e.source == 0) (is_frame e.frame nrd) true parts.0) refl
-cut_unheld (e ∷ es) (suc n) q all =
-    let parts = and_parts (is_no_nrd e) (list_all is_no_nrd es) all in
-    and_from (is_unheld e) (list_all is_unheld (cut_at es n (FrameLost q))) (unheld (e.source == 0) (is_frame e.frame nrd) (is_lost e.outcome) parts.0) (cut_unheld es n q parts.1)
+cut_unheld es n q all = no_nrd_unheld (cut_at es n (FrameLost q)) (cut_all is_no_nrd (λ e q is. is) es n q all)
 
--- or where the host does not source it
-others_unheld : (k : ℕ) (es : List Entry) → list_all (is_entry_led k) es ≡ true → list_all is_unheld es ≡ true
+-- or if the host does not source it
+others_unheld : (k : ℕ) (es : List Entry) → list_all (is_entry_controlled k) es ≡ true → list_all is_unheld es ≡ true
 others_unheld k [] all = refl
 others_unheld k (e ∷ es) all =
-    let parts = and_parts (is_entry_led k e) (list_all (is_entry_led k) es) all in
+    let parts = and_parts (is_entry_controlled k e) (list_all (is_entry_controlled k) es) all in
     let other = not-true (e.source == 0) (and_parts _ (not (e.source == 0)) parts.0).1 in
     and_from (is_unheld e) (list_all is_unheld es) (ap (λ own. not (own && (is_frame e.frame nrd && is_lost e.outcome))) other) (others_unheld k es parts.1)
 
@@ -55,7 +48,7 @@ two xs ys first second = list_all-append is_unheld xs ys ∙ and_from (list_all 
 module _ (k : ℕ) (guest : (k == 0) ≡ false) (asked : List ℕ) (limit : ℕ) where
   turn_unheld : (answers : List (List Answer)) (n : ℕ) (end : RoundsEnd) → are_rounds k asked answers n end ≡ true → list_all is_unheld (ended_after k (rounds_entries k asked answers) n end) ≡ true
   turn_unheld answers n end are =
-      others_unheld k (ended_after k (rounds_entries k asked answers) n end) (rounds_are_led k guest asked answers n end are)
+      others_unheld k (ended_after k (rounds_entries k asked answers) n end) (rounds_are_controlled k guest asked answers n end are)
 
   pub lend_unheld : (lend : Lend) → is_lend k asked limit lend ≡ true → list_all is_unheld (lend_entries k asked lend) ≡ true
   lend_unheld (NoTaker a) is = refl

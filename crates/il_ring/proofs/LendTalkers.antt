@@ -18,8 +18,8 @@ use Rattle.il_device.specs.declared.roles.Roles.{Roles}
 use Rattle.il_device.specs.Takes.{eto, ete}
 use Rattle.loop_model.specs.Reach.{is_reached}
 use Rattle.loop_model.specs.Roles.{are_numbered, is_aau, is_at_most_one, is_spoken, may_speak, roles_after, roles_after_entry, roles_along, talkers}
-use Rattle.loop_model.specs.Exchanges.{Answer, NotTaken, ToItsEnd, Stopped, Exchange, Receive, Sst, Break, FrameLost, HostAltered, TalkerAltered, break_entries, can_cut, commanded, cut_at, echoed, entries_of, is_address, is_altered, is_answer, is_break, is_echo, is_end, is_talk_address, returned, start_frame}
-use Rattle.loop_model.specs.Leading.{OneTalkerLed, controller_after, has_no_lend, has_one_talker_led, is_in_turn_led, is_no_lend, may_speak_led, roles_led, roles_led_entry}
+use Rattle.loop_model.specs.Exchanges.{Answer, NotTaken, ToItsEnd, Stopped, Exchange, Receive, Sst, FrameLost, HostAltered, TalkerAltered, break_entries, can_cut, commanded, cut_at, echoed, entries_of, is_address, is_altered, is_answer, is_break, is_echo, is_end, is_talk_address, returned, start_frame}
+use Rattle.loop_model.specs.Leading.{OneTalkerLed, controller_after, has_one_talker_led, is_in_turn_led, is_no_lend, may_speak_led, roles_led, roles_led_entry}
 use Rattle.loop_model.proofs.LeadingLaws.{OneTalkerLed-no_lend, controller_after-append, controller_after-no_lend, roles_led-append, roles_led-no_lend}
 use Rattle.loop_model.proofs.RoleLaws.{all_quiet, gives_no_talk, no_talkers, quiet_log}
 use Rattle.loop_model.proofs.RoleSteps.{changes_roles, one_talker-addressed, one_talker-kept, roles_after-kept}
@@ -27,23 +27,25 @@ use Rattle.loop_model.proofs.TalkLaws.{are_numbered-log, gives_no_aau, length-ro
 use Rattle.loop_model.proofs.RoundLaws.{IsSafe, OneTalker-cut, OneTalker-safe, data_keeps, is_mute, message_of-tad, safe_mute}
 use Rattle.il_guest.specs.Frames.{nop, tct}
 use Rattle.il_guest.proofs.RoundLaws.{is_same-true}
-use Rattle.il_ring.specs.Lends.{RoundsEnd, AtHost, BreaksOff, ByteLost, Lend, NoTaker, NoTakerCut, Lent, LentCut, LentLost, addressed_talker, all_asked, are_rounds, are_told_by, arrivals_in, can_end, can_end_by, can_lose_next, ended_after, handed_entries, held_entries, is_break_end, is_lend, is_one_status, is_told_by, is_whole_lend, lend_address, lend_entries, refused_entries, rounds_asked, rounds_entries, stands_at_last, tells_own, was_taken}
-use Rattle.il_ring.proofs.LedTalkers.{length_along, numbered_along, silent_but, all_silent, few_but, silent_along, untalked, cleared, told_along, one_told, own_entry, ifc_entry, kept_entry, is_plain, is_plain_entry, plain_keeps_addresses, plain_log, one_step, few_after, one_append}
+use Rattle.il_ring.specs.Lends.{RoundsEnd, AtHost, BreaksOff, ByteLost, Lend, NoTaker, NoTakerCut, Lent, LentCut, LentLost, addressed_talker, receives_of, are_rounds, are_reported_by, can_end, can_end_by, can_lose_next, ended_after, handed_entries, held_entries, is_lend, is_one_status, is_reported_by, is_whole_lend, lend_address, lend_entries, refused_entries, rounds_asked, rounds_entries, reports_own, was_taken}
+use Rattle.il_ring.proofs.ControlledTalkers.{length_along, numbered_along, silent_but, all_silent, few_but, silent_along, untalked, cleared, told_along, one_told, own_entry, ifc_entry, kept_entry, is_plain, is_plain_entry, plain_keeps_addresses, plain_log, one_step, few_after, one_append}
+use Rattle.il_ring.proofs.LendLaws.{are_lent, cut_all, ended_hold}
+use Rattle.il_ring.proofs.MessageKinds.{data_spoken}
 
 -- ---- rounds that may end anywhere
 
--- however the frame ends, at most one device talks behind it
-abbrev IsCalmLed : ℕ → List Roles → Entry → Type 0
-IsCalmLed c rs e = (o : Outcome) → is_at_most_one (talkers (roles_led_entry c rs (entry e.source e.frame o))) ≡ true
+-- however the frame ends, at most one device talks after it
+abbrev IsCalmControlled : ℕ → List Roles → Entry → Type 0
+IsCalmControlled c rs e = (o : Outcome) → is_at_most_one (talkers (roles_led_entry c rs (entry e.source e.frame o))) ≡ true
 
 -- along the log at most one device talks, whose turn it is, and that holds however a frame of it ends; control stays where it is
-abbrev IsSafeLed : ℕ → List Roles → List Entry → Type 0
-IsSafeLed c rs [] = is_at_most_one (talkers rs) ≡ true
-IsSafeLed c rs (e ∷ es) =
-    (is_at_most_one (talkers rs) ≡ true) × (is_in_turn_led c (talkers rs) e ≡ true) × (is_plain_entry e ≡ true) × IsCalmLed c rs e × IsSafeLed c (roles_led_entry c rs e) es
+abbrev IsSafeControlled : ℕ → List Roles → List Entry → Type 0
+IsSafeControlled c rs [] = is_at_most_one (talkers rs) ≡ true
+IsSafeControlled c rs (e ∷ es) =
+    (is_at_most_one (talkers rs) ≡ true) × (is_in_turn_led c (talkers rs) e ≡ true) × (is_plain_entry e ≡ true) × IsCalmControlled c rs e × IsSafeControlled c (roles_led_entry c rs e) es
 
 -- such a log is plain
-safe_plain : (c : ℕ) (rs : List Roles) (es : List Entry) → IsSafeLed c rs es → list_all is_plain_entry es ≡ true
+safe_plain : (c : ℕ) (rs : List Roles) (es : List Entry) → IsSafeControlled c rs es → list_all is_plain_entry es ≡ true
 safe_plain c rs [] safe = refl
 safe_plain c rs (e ∷ es) safe = and_from (is_plain_entry e) _ safe.2 (safe_plain c (roles_led_entry c rs e) es safe.4)
 
@@ -58,44 +60,36 @@ mute_turn : (c : ℕ) (ps : List ℕ) (e : Entry) → is_spoken (message_of e.fr
 mute_turn c ps e mute = rw mute refl
 
 -- one frame that is in turn, and ends somehow
-ends_somehow : (c : ℕ) (rs : List Roles) (e : Entry) (o : Outcome) → is_at_most_one (talkers rs) ≡ true → is_in_turn_led c (talkers rs) e ≡ true → is_plain_entry e ≡ true → IsCalmLed c rs e
+ends_somehow : (c : ℕ) (rs : List Roles) (e : Entry) (o : Outcome) → is_at_most_one (talkers rs) ≡ true → is_in_turn_led c (talkers rs) e ≡ true → is_plain_entry e ≡ true → IsCalmControlled c rs e
     → OneTalkerLed c rs (entry e.source e.frame o ∷ [])
 ends_somehow c rs e o few turn plain calm = one_step c rs (entry e.source e.frame o) [] few turn plain (calm o)
 
--- where it is NRD, whoever talks
+-- if it is NRD, whoever talks
 nrd_ends : (c : ℕ) (rs : List Roles) (e : Entry) (o : Outcome) → is_frame e.frame nrd ≡ true → is_at_most_one (talkers rs) ≡ true → OneTalkerLed c rs (entry e.source e.frame o ∷ [])
 nrd_ends c rs e o is few =
     let mute = nrd_mute e.frame is in
     ends_somehow c rs e o few (mute_turn c (talkers rs) e mute.0) mute.2 (λ p. ap (λ ss. is_at_most_one (talkers ss)) (kept_entry c rs (entry e.source e.frame p) mute.1) ∙ few)
 
--- the frame behind an NRD ends while NRD is on its way
-behind_nrd : (c : ℕ) (rs : List Roles) (due next : Entry) (more : List Entry) → IsSafeLed c rs (due ∷ next ∷ more) → is_frame due.frame nrd ≡ true → IsSafeLed c rs (next ∷ more)
-behind_nrd c rs due next more safe is = subst (λ ss. IsSafeLed c ss (next ∷ more)) (kept_entry c rs due (nrd_mute due.frame is).1) safe.4
+-- the frame after an NRD ends while NRD is on its way
+after_nrd : (c : ℕ) (rs : List Roles) (due next : Entry) (more : List Entry) → IsSafeControlled c rs (due ∷ next ∷ more) → is_frame due.frame nrd ≡ true → IsSafeControlled c rs (next ∷ more)
+after_nrd c rs due next more safe is = subst (λ ss. IsSafeControlled c ss (next ∷ more)) (kept_entry c rs due (nrd_mute due.frame is).1) safe.4
 
 -- with a byte that is held, or without
-held_talk : (c : ℕ) (rs : List Roles) (due : Entry) (more rest : List Entry) → IsSafeLed c rs (due ∷ more) → OneTalkerLed c rs rest
+held_talk : (c : ℕ) (rs : List Roles) (due : Entry) (more rest : List Entry) → IsSafeControlled c rs (due ∷ more) → OneTalkerLed c rs rest
     → (is_frame due.frame nrd ≡ true → (ss : List Roles) → is_at_most_one (talkers ss) ≡ true → OneTalkerLed c ss rest) → OneTalkerLed c rs (held_entries c due more ++ rest)
 held_talk c rs due [] rest safe without with_held = without
 held_talk c rs due (next ∷ more) rest safe without with_held = by (is_frame due.frame nrd) refl
   where
     by : (b : Bool) → is_frame due.frame nrd ≡ b → OneTalkerLed c rs ((elim b [ true ↦ entry next.source next.frame (outcome.Taken c) ∷ [] | false ↦ [] ]) ++ rest)
     by true is =
-        let held = behind_nrd c rs due next more safe is in
+        let held = after_nrd c rs due next more safe is in
         one_step c rs (entry next.source next.frame (outcome.Taken c)) rest held.0 held.1 held.2 (with_held is _ (held.3 (outcome.Taken c)))
     by false is = without
 
--- the frame that is due ends somehow, behind a byte that is held, or without one
-due_ends : (c : ℕ) (rs : List Roles) (due : Entry) (more : List Entry) (o : Outcome) → IsSafeLed c rs (due ∷ more) → OneTalkerLed c rs (held_entries c due more ++ entry due.source due.frame o ∷ [])
+-- the frame that is due ends somehow, after a byte that is held, or without one
+due_ends : (c : ℕ) (rs : List Roles) (due : Entry) (more : List Entry) (o : Outcome) → IsSafeControlled c rs (due ∷ more) → OneTalkerLed c rs (held_entries c due more ++ entry due.source due.frame o ∷ [])
 due_ends c rs due more o safe =
     held_talk c rs due more (entry due.source due.frame o ∷ []) safe (ends_somehow c rs due o safe.0 safe.1 safe.2 safe.3) (λ is ss few. nrd_ends c ss due o is few)
-
--- a data or end frame is spoken
-data_spoken : (k : Class) (byte : ℕ) → is_data_class k ≡ true → is_spoken (message_at k byte) ≡ true
-data_spoken class.Dab byte e = refl
-data_spoken class.Dsr byte e = refl
-data_spoken class.End byte e = refl
-data_spoken class.Esr byte e = refl
-data_spoken k byte e = cc
 
 -- its turn is that of a talker
 in_turn_spoken : (spoken may : Bool) → spoken ≡ true → (not spoken || may) ≡ true → may ≡ true
@@ -108,7 +102,7 @@ speaks_on c [] s m n other may = let host = (and_parts (s == c) _ may).0 in let 
 speaks_on c (p ∷ ps) s m n other may = may
 
 -- a device's byte comes back as another, and its ETE ends somehow
-altered_talk : (c : ℕ) (rs : List Roles) (due : Entry) (more : List Entry) (f : Frame) (end : Outcome) → IsSafeLed c rs (due ∷ more) → is_break c due (TalkerAltered f end) ≡ true
+altered_talk : (c : ℕ) (rs : List Roles) (due : Entry) (more : List Entry) (f : Frame) (end : Outcome) → IsSafeControlled c rs (due ∷ more) → is_break c due (TalkerAltered f end) ≡ true
     → OneTalkerLed c rs (held_entries c due more ++ break_entries due (TalkerAltered f end))
 altered_talk c rs due more f end safe can =
     let parts = and_parts (not (due.source == c)) (is_altered due.frame f && is_end c end) can in
@@ -125,7 +119,7 @@ altered_talk c rs due more f end safe can =
     (λ is ss few. let mute = (nrd_mute due.frame is).0 in cc)
 
 -- rounds have one talker wherever they end
-ended_talk : (c : ℕ) (rs : List Roles) (es : List Entry) (n : ℕ) (end : RoundsEnd) → IsSafeLed c rs es → can_end c es n end ≡ true → OneTalkerLed c rs (ended_after c es n end)
+ended_talk : (c : ℕ) (rs : List Roles) (es : List Entry) (n : ℕ) (end : RoundsEnd) → IsSafeControlled c rs es → can_end c es n end ≡ true → OneTalkerLed c rs (ended_after c es n end)
 ended_talk c rs [] n end safe can = safe
 ended_talk c rs (e ∷ es) (suc n) end safe can = one_step c rs e (ended_after c es n end) safe.0 safe.1 safe.2 (ended_talk c (roles_led_entry c rs e) es n end safe.4 can)
 ended_talk c rs (e ∷ es) zero AtHost safe can = due_ends c rs e es (outcome.Taken 0) safe
@@ -134,39 +128,8 @@ ended_talk c rs (e ∷ es) zero (BreaksOff (HostAltered f)) safe can = due_ends 
 ended_talk c rs (e ∷ es) zero (BreaksOff (TalkerAltered f end)) safe can = altered_talk c rs e es f end safe (and_parts (is_break c e (TalkerAltered f end)) (can_end_by c e.source end) can).0
 ended_talk c rs (e ∷ []) zero (ByteLost q) safe can = safe.0
 ended_talk c rs (e ∷ next ∷ es) zero (ByteLost q) safe can =
-    let behind = behind_nrd c rs e next es safe (and_parts (is_frame e.frame nrd) (can_lose_next c (next ∷ es) q) can).0 in
-    ends_somehow c rs next (outcome.Lost q) behind.0 behind.1 behind.2 behind.3
-
--- a byte that is held is as plain as the rest
-held_plain : (c : ℕ) (due : Entry) (more rest : List Entry) → list_all is_plain_entry more ≡ true → list_all is_plain_entry rest ≡ true → list_all is_plain_entry (held_entries c due more ++ rest) ≡ true
-held_plain c due [] rest all plain = plain
-held_plain c due (next ∷ more) rest all plain = by (is_frame due.frame nrd)
-  where
-    by : (b : Bool) → list_all is_plain_entry ((elim b [ true ↦ entry next.source next.frame (outcome.Taken c) ∷ [] | false ↦ [] ]) ++ rest) ≡ true
-    by true = and_from (is_plain_entry next) _ (and_parts (is_plain_entry next) (list_all is_plain_entry more) all).0 plain
-    by false = plain
-
--- and plain entries
-ended_plain : (c : ℕ) (es : List Entry) (n : ℕ) (end : RoundsEnd) → list_all is_plain_entry es ≡ true → list_all is_plain_entry (ended_after c es n end) ≡ true
-ended_plain c [] n end plain = refl
-ended_plain c (e ∷ es) (suc n) end plain =
-    let parts = and_parts (is_plain_entry e) (list_all is_plain_entry es) plain in
-    and_from (is_plain_entry e) _ parts.0 (ended_plain c es n end parts.1)
-ended_plain c (e ∷ es) zero AtHost plain =
-    let parts = and_parts (is_plain_entry e) (list_all is_plain_entry es) plain in
-    held_plain c e es _ parts.1 (and_from (is_plain_entry e) true parts.0 refl)
-ended_plain c (e ∷ es) zero (BreaksOff b) plain =
-    let parts = and_parts (is_plain_entry e) (list_all is_plain_entry es) plain in
-    held_plain c e es _ parts.1 (broken b parts.0)
-  where
-    broken : (b : Break) → is_plain_entry e ≡ true → list_all is_plain_entry (break_entries e b) ≡ true
-    broken (FrameLost q) plain = and_from (is_plain_entry e) true plain refl
-    broken (HostAltered f) plain = and_from (is_plain_entry e) true plain refl
-    broken (TalkerAltered f end) plain = and_from (is_plain_entry e) true plain refl
-ended_plain c (e ∷ []) zero (ByteLost q) plain = refl
-ended_plain c (e ∷ next ∷ es) zero (ByteLost q) plain =
-    let parts = and_parts (is_plain_entry e) (list_all is_plain_entry (next ∷ es)) plain in
-    and_from (is_plain_entry next) true (and_parts (is_plain_entry next) (list_all is_plain_entry es) parts.1).0 refl
+    let after = after_nrd c rs e next es safe (and_parts (is_frame e.frame nrd) (can_lose_next c (next ∷ es) q) can).0 in
+    ends_somehow c rs next (outcome.Lost q) after.0 after.1 after.2 after.3
 
 -- ---- rounds
 
@@ -197,7 +160,7 @@ ready_entry c k q f o rs calm ready =
 
 -- such a frame, and what follows
 calm_step : (c k q : ℕ) (f : Frame) (o : Outcome) (more : List Entry) → is_calm f ≡ true → (rs : List Roles) → IsReady k q rs
-    → IsSafeLed c (roles_led_entry c rs (entry c f o)) more → IsSafeLed c rs (entry c f o ∷ more)
+    → IsSafeControlled c (roles_led_entry c rs (entry c f o)) more → IsSafeControlled c rs (entry c f o ∷ more)
 calm_step c k q f o more calm rs ready rest =
     let parts = and_parts (is_plain (message_of f)) _ calm in
     let mute = and_parts (not (is_spoken (message_of f))) (not (is_talk_address (message_of f))) parts.1 in (
@@ -210,9 +173,9 @@ calm_step c k q f o more calm rs ready rest =
 
 -- what follows a ring that is ready
 abbrev Follows : ℕ → ℕ → ℕ → List Entry → Type 0
-Follows c k q more = (rs : List Roles) → IsReady k q rs → IsSafeLed c rs more
+Follows c k q more = (rs : List Roles) → IsReady k q rs → IsSafeControlled c rs more
 
--- the same, where what follows is safe on every ring that is ready so
+-- the same, if what follows is safe on every ring that is ready so
 ready_step : (c k q : ℕ) (f : Frame) (o : Outcome) (more : List Entry) → is_calm f ≡ true → Follows c k q more → Follows c k q (entry c f o ∷ more)
 ready_step c k q f o more calm rest rs ready = calm_step c k q f o more calm rs ready (rest _ (ready_entry c k q f o rs calm ready))
 
@@ -233,17 +196,17 @@ untalk_step c k q more rest rs ready =
 
 -- an entry that is in turn and changes no role
 kept_step : (c : ℕ) (rs : List Roles) (e : Entry) (more : List Entry) → is_at_most_one (talkers rs) ≡ true → is_in_turn_led c (talkers rs) e ≡ true → is_plain_entry e ≡ true
-    → changes_roles (message_of e.frame) ≡ false → IsSafeLed c rs more → IsSafeLed c rs (e ∷ more)
+    → changes_roles (message_of e.frame) ≡ false → IsSafeControlled c rs more → IsSafeControlled c rs (e ∷ more)
 kept_step c rs e more few turn plain keeps rest = (
   few,
   turn,
   plain,
   λ o. ap (λ ss. is_at_most_one (talkers ss)) (kept_entry c rs (entry e.source e.frame o) keeps) ∙ few,
-  subst (λ ss. IsSafeLed c ss more) (sym (kept_entry c rs e keeps)) rest,
+  subst (λ ss. IsSafeControlled c ss more) (sym (kept_entry c rs e keeps)) rest,
 )
 
--- Party k has the device at this address talk: it ends its own talking. Where there is such a device, that one talks alone.
-talk_step : (k a : ℕ) (more : List Entry) → is_address a ≡ true → ((rs : List Roles) → IsReady k a rs → (1 ≤ a → a ≤ k → talkers rs ≡ a ∷ []) → IsSafeLed k rs more)
+-- Party k has the device at this address talk: it ends its own talking. If there is such a device, that one talks alone.
+talk_step : (k a : ℕ) (more : List Entry) → is_address a ≡ true → ((rs : List Roles) → IsReady k a rs → (1 ≤ a → a ≤ k → talkers rs ≡ a ∷ []) → IsSafeControlled k rs more)
     → Follows k k k (commanded k (tad a) ++ more)
 talk_step k a more low rest rs ready =
     let tells = message_of-tad a low in
@@ -253,15 +216,15 @@ talk_step k a more low rest rs ready =
       many = length_along k o 1 (msg.Tad a) rs ∙ ready.many;
       silent = told_along a k k o 1 rs (or_right (k == a) _ (reaches_itself k o)) ready.numbers ready.silent;
     }) in
-    let behind = roles_led_entry k rs (returned k (tad a)) in
-    let alone : 1 ≤ a → a ≤ k → talkers behind ≡ a ∷ [] = λ from to.
+    let after = roles_led_entry k rs (returned k (tad a)) in
+    let alone : 1 ≤ a → a ≤ k → talkers after ≡ a ∷ [] = λ from to.
     ap talkers (own_entry k rs (tad a) (outcome.Back (tad a)) ∙ ap (λ m. roles_along k (outcome.Back (tad a)) 1 m rs) tells)
     ∙ one_told k (tad a) 1 a rs ready.numbers from (omega (arith, to, ready.many)) in (
       ready_few k k rs ready,
       mute_turn k (talkers rs) (returned k (tad a)) (ap is_spoken tells),
       ap is_plain tells,
       λ o. ready_few k a _ (told o),
-      kept_step k behind (returned k rfc) more (ready_few k a behind (told (outcome.Back (tad a)))) refl refl refl (rest behind (told (outcome.Back (tad a))) alone),
+      kept_step k after (returned k rfc) more (ready_few k a after (told (outcome.Back (tad a)))) refl refl refl (rest after (told (outcome.Back (tad a))) alone),
     )
   where
     reaches_itself : (k : ℕ) (o : Outcome) → is_reached k o k ≡ true
@@ -273,7 +236,7 @@ talk_step k a more low rest rs ready =
 
 -- a device that may be asked, by its own number
 abbrev TellsOwnStatus : ℕ → ℕ → Answer → Type 0
-TellsOwnStatus k a answer = (is_one_status k answer ≡ true) × (is_told_by a answer ≡ true)
+TellsOwnStatus k a answer = (is_one_status k answer ≡ true) × (is_reported_by a answer ≡ true)
 
 -- an address is asked for its status
 status_step : (k a : ℕ) (answer : Answer) (more : List Entry) → is_address a ≡ true → TellsOwnStatus k a answer → Follows k k k more
@@ -322,31 +285,31 @@ status_step k a (Stopped p [] last) more low tells rest =
 
 -- the addresses are asked in turn
 asked_step : (k : ℕ) (addresses : List ℕ) (answers : List Answer) (more : List Exchange) → list_all (λ a. is_address a) addresses ≡ true
-    → list_all (is_one_status k) answers ≡ true → are_told_by addresses answers ≡ true
-    → Follows k k k (flat_map (entries_of k) more) → Follows k k k (flat_map (entries_of k) (all_asked addresses answers ++ more))
+    → list_all (is_one_status k) answers ≡ true → are_reported_by addresses answers ≡ true
+    → Follows k k k (flat_map (entries_of k) more) → Follows k k k (flat_map (entries_of k) (receives_of addresses answers ++ more))
 asked_step k [] answers more low ones told rest = rest
 asked_step k (a ∷ addresses) [] more low ones told rest =
     let lows = and_parts (is_address a) (list_all (λ a. is_address a) addresses) low in
-    status_step k a NotTaken (flat_map (entries_of k) (all_asked addresses [] ++ more)) lows.0 (refl, refl) (asked_step k addresses [] more lows.1 refl (none_told_by addresses) rest)
+    status_step k a NotTaken (flat_map (entries_of k) (receives_of addresses [] ++ more)) lows.0 (refl, refl) (asked_step k addresses [] more lows.1 refl (none_told_by addresses) rest)
   where
-    none_told_by : (addresses : List ℕ) → are_told_by addresses [] ≡ true
+    none_told_by : (addresses : List ℕ) → are_reported_by addresses [] ≡ true
     none_told_by [] = refl
     none_told_by (a ∷ more) = refl
 asked_step k (a ∷ addresses) (answer ∷ answers) more low ones told rest =
     let lows = and_parts (is_address a) (list_all (λ a. is_address a) addresses) low in
     let one = and_parts (is_one_status k answer) (list_all (is_one_status k) answers) ones in
-    let own = and_parts (is_told_by a answer) (are_told_by addresses answers) told in
-    status_step k a answer (flat_map (entries_of k) (all_asked addresses answers ++ more)) lows.0 (one.0, own.0) (asked_step k addresses answers more lows.1 one.1 own.1 rest)
+    let own = and_parts (is_reported_by a answer) (are_reported_by addresses answers) told in
+    status_step k a answer (flat_map (entries_of k) (receives_of addresses answers ++ more)) lows.0 (one.0, own.0) (asked_step k addresses answers more lows.1 one.1 own.1 rest)
 
 -- rounds that begin while none talks but possibly party k are safe
 rounds_safe : (k : ℕ) (addresses : List ℕ) (answers : List (List Answer)) → list_all (λ a. is_address a) addresses ≡ true
-    → list_all (λ round. list_all (is_one_status k) round) answers ≡ true → list_all (are_told_by addresses) answers ≡ true
+    → list_all (λ round. list_all (is_one_status k) round) answers ≡ true → list_all (are_reported_by addresses) answers ≡ true
     → Follows k k k (rounds_entries k addresses answers)
 rounds_safe k addresses [] low ones told rs ready = ready_few k k rs ready
 rounds_safe k addresses (round ∷ answers) low ones told rs ready =
     let one = and_parts (list_all (is_one_status k) round) (list_all (λ round. list_all (is_one_status k) round) answers) ones in
-    let own = and_parts (are_told_by addresses round) (list_all (are_told_by addresses) answers) told in
-    command_step k k k nop (flat_map (entries_of k) (all_asked addresses round ++ rounds_asked addresses answers)) refl
+    let own = and_parts (are_reported_by addresses round) (list_all (are_reported_by addresses) answers) told in
+    command_step k k k nop (flat_map (entries_of k) (receives_of addresses round ++ rounds_asked addresses answers)) refl
     (asked_step k addresses round (rounds_asked addresses answers) low one.0 own.0 (rounds_safe k addresses answers low one.1 own.1)) rs ready
 
 -- ---- under the host
@@ -430,7 +393,7 @@ back_talk c rs o more few rest =
     and_from (is_at_most_one (talkers rs)) _ few
     (rest (roles_led_entry c rs (entry 0 ifc o)) (ap (λ ss. is_at_most_one (talkers ss)) (ifc_entry c rs o) ∙ one_talker-kept rs (entry 0 ifc o) few refl))
 
--- the handshake behind it, however it ends
+-- the handshake after it, however it ends
 rfc_talk : (o : Outcome) (ss : List Roles) → is_at_most_one (talkers ss) ≡ true → OneTalkerLed 0 ss (entry 0 rfc o ∷ [])
 rfc_talk o ss few = one_step 0 ss (entry 0 rfc o) [] few refl refl (ap (λ ss. is_at_most_one (talkers ss)) (kept_entry 0 ss (entry 0 rfc o) refl) ∙ few)
 
@@ -455,14 +418,6 @@ taken_idle c rs numbers =
 
 -- ---- nobody takes control
 
--- a loss hands no control over
-lost_no_lend : (es : List Entry) (n q : ℕ) → has_no_lend es ≡ true → has_no_lend (cut_at es n (FrameLost q)) ≡ true
-lost_no_lend [] n q none = refl
-lost_no_lend (e ∷ es) zero q none = refl
-lost_no_lend (e ∷ es) (suc n) q none =
-    let parts = and_parts (is_no_lend e) (has_no_lend es) none in
-    and_from (is_no_lend e) _ parts.0 (lost_no_lend es n q parts.1)
-
 -- any frame can be lost
 can_lose : (es : List Entry) (n q : ℕ) → n < length es → can_cut 0 es n (FrameLost q) ≡ true
 can_lose [] n q short = absurd (omega (arith, short))
@@ -481,7 +436,7 @@ refused_talk a rs numbers silent low = (OneTalkerLed-no_lend rs (refused_entries
 refused_cut : (a n q : ℕ) (rs : List Roles) → are_numbered 1 rs ≡ true → talkers rs ≡ [] → is_address a ≡ true → nat_lt n (length (refused_entries a)) ≡ true
     → OneTalkerLed 0 rs (cut_at (refused_entries a) n (FrameLost q))
 refused_cut a n q rs numbers silent low short =
-    (OneTalkerLed-no_lend rs (cut_at (refused_entries a) n (FrameLost q)) (lost_no_lend (refused_entries a) n q refl)).1
+    (OneTalkerLed-no_lend rs (cut_at (refused_entries a) n (FrameLost q)) (cut_all is_no_lend (λ e q is. refl) (refused_entries a) n q refl)).1
     (OneTalker-cut rs (refused_entries a) n (FrameLost q) (refused_safe a rs numbers silent low) (can_lose (refused_entries a) n q (ltb-true n (length (refused_entries a)) short)))
 
 -- then nobody talks, and each device has its number as address
@@ -509,19 +464,19 @@ module _ (k : ℕ) (asked : List ℕ) (rs : List Roles) (many : length rs ≡ k)
 
   -- the rounds have one talker, leave control where it is, and leave numbered devices numbered
   turn_talk : (answers : List (List Answer)) (n : ℕ) (end : RoundsEnd) → is_address k ≡ true → are_rounds k asked answers n end ≡ true
-      → list_all (are_told_by asked) answers ≡ true
+      → list_all (are_reported_by asked) answers ≡ true
       → OneTalkerLed k lent (ended answers n end) × (controller_after k (ended answers n end) ≡ k) × (are_numbered 1 (roles_led k lent (ended answers n end)) ≡ true)
   turn_talk answers n end low are told =
       let parts = and_parts (list_all (λ a. is_address a) asked) (list_all (λ round. list_all (is_one_status k) round) answers && can_end k (rounds_entries k asked answers) n end) are in
       let ones = and_parts (list_all (λ round. list_all (is_one_status k) round) answers) (can_end k (rounds_entries k asked answers) n end) parts.1 in
       let ready = (handed k rs many numbers silent low).ready in
       let safe = rounds_safe k asked answers parts.0 ones.0 told lent ready in
-      let plain = plain_log k lent (ended answers n end) (ended_plain k (rounds_entries k asked answers) n end (safe_plain k lent (rounds_entries k asked answers) safe)) in
+      let plain = plain_log k lent (ended answers n end) (ended_hold (λ source f. is_plain (message_of f)) (λ source f is. refl) k (rounds_entries k asked answers) n end (safe_plain k lent (rounds_entries k asked answers) safe)) in
       (ended_talk k lent (rounds_entries k asked answers) n end safe ones.1, plain.0, plain.1 ready.numbers)
 
   -- the rounds, and what follows
   turn_then : (answers : List (List Answer)) (n : ℕ) (end : RoundsEnd) (more : List Entry) → is_address k ≡ true → are_rounds k asked answers n end ≡ true
-      → list_all (are_told_by asked) answers ≡ true
+      → list_all (are_reported_by asked) answers ≡ true
       → ((ss : List Roles) → is_at_most_one (talkers ss) ≡ true → OneTalkerLed k ss more) → OneTalkerLed 0 rs (handed_entries k k ++ (ended answers n end ++ more))
   turn_then answers n end more low are told rest =
       let hand = handed k rs many numbers silent low in
@@ -533,47 +488,35 @@ module _ (k : ℕ) (asked : List ℕ) (rs : List Roles) (many : length rs ≡ k)
 
 -- at most one party talks at every moment of a lend, and only the talker speaks
 pub lend_one_talker : (k : ℕ) (asked : List ℕ) (limit : ℕ) (lend : Lend) (rs : List Roles) → k ≡ length rs → talkers rs ≡ [] → are_numbered 1 rs ≡ true
-    → is_lend k asked limit lend ≡ true → tells_own asked lend ≡ true → (was_taken lend ≡ true → lend_address lend ≡ k)
+    → is_lend k asked limit lend ≡ true → reports_own asked lend ≡ true → (was_taken lend ≡ true → lend_address lend ≡ k)
     → OneTalkerLed 0 rs (lend_entries k asked lend)
 lend_one_talker k asked limit (NoTaker a) rs many silent numbers is own last = refused_talk a rs numbers silent is
 lend_one_talker k asked limit (NoTakerCut a n q) rs many silent numbers is own last =
     let parts = and_parts (is_address a) (nat_lt n (length (refused_entries a)) && nat_le q k) is in
     refused_cut a n q rs numbers silent parts.0 (and_parts (nat_lt n (length (refused_entries a))) (nat_le q k) parts.1).0
 lend_one_talker k asked limit (Lent a answers n) rs many silent numbers is own last =
-    let at = stands_at_last k asked limit answers n in
-    let parts = and_parts (is_address a) (are_rounds k asked answers n AtHost && at) is in
-    let are = and_parts (are_rounds k asked answers n AtHost) at parts.1 in
     subst (λ b. OneTalkerLed 0 rs (lend_entries k asked (Lent b answers n))) (sym (last refl))
-    (turn_then k asked rs (sym many) silent numbers answers n AtHost (commanded 0 ifc) (ap is_address (sym (last refl)) ∙ parts.0) are.0 own (λ ss few. taken_talk k ss few))
+    (turn_then k asked rs (sym many) silent numbers answers n AtHost (commanded 0 ifc) (ap is_address (sym (last refl)) ∙ (and_parts (is_address a) _ is).0) (are_lent k asked limit (Lent a answers n) is) own (λ ss few. taken_talk k ss few))
 lend_one_talker k asked limit (LentCut a answers n end) rs many silent numbers is own last =
-    let early = is_break_end end && nat_lt (arrivals_in k (rounds_entries k asked answers) n end) limit in
-    let parts = and_parts (is_address a) (are_rounds k asked answers n end && early) is in
-    let are = and_parts (are_rounds k asked answers n end) early parts.1 in
     subst (λ b. OneTalkerLed 0 rs (lend_entries k asked (LentCut b answers n end))) (sym (last refl))
     (subst (λ es. OneTalkerLed 0 rs (handed_entries k k ++ es)) (append-nil (ended_after k (rounds_entries k asked answers) n end))
-    (turn_then k asked rs (sym many) silent numbers answers n end [] (ap is_address (sym (last refl)) ∙ parts.0) are.0 own (λ ss few. few)))
+    (turn_then k asked rs (sym many) silent numbers answers n end [] (ap is_address (sym (last refl)) ∙ (and_parts (is_address a) _ is).0) (are_lent k asked limit (LentCut a answers n end) is) own (λ ss few. few)))
 lend_one_talker k asked limit (LentLost a answers n m q) rs many silent numbers is own last =
-    let at = stands_at_last k asked limit answers n && (nat_lt m 2 && nat_le q k) in
-    let parts = and_parts (is_address a) (are_rounds k asked answers n AtHost && at) is in
-    let are = and_parts (are_rounds k asked answers n AtHost) at parts.1 in
     subst (λ b. OneTalkerLed 0 rs (lend_entries k asked (LentLost b answers n m q))) (sym (last refl))
-    (turn_then k asked rs (sym many) silent numbers answers n AtHost (cut_at (commanded 0 ifc) m (FrameLost q)) (ap is_address (sym (last refl)) ∙ parts.0) are.0 own (λ ss few. lost_talk k ss m q few))
+    (turn_then k asked rs (sym many) silent numbers answers n AtHost (cut_at (commanded 0 ifc) m (FrameLost q)) (ap is_address (sym (last refl)) ∙ (and_parts (is_address a) _ is).0) (are_lent k asked limit (LentLost a answers n m q) is) own (λ ss few. lost_talk k ss m q few))
 
 -- after a whole one nobody talks, and each device has its number as address
 pub lend_idle : (k : ℕ) (asked : List ℕ) (limit : ℕ) (lend : Lend) (rs : List Roles) → k ≡ length rs → talkers rs ≡ [] → are_numbered 1 rs ≡ true
-    → is_lend k asked limit lend ≡ true → tells_own asked lend ≡ true → (was_taken lend ≡ true → lend_address lend ≡ k) → is_whole_lend lend ≡ true
+    → is_lend k asked limit lend ≡ true → reports_own asked lend ≡ true → (was_taken lend ≡ true → lend_address lend ≡ k) → is_whole_lend lend ≡ true
     → (talkers (roles_led 0 rs (lend_entries k asked lend)) ≡ []) × (are_numbered 1 (roles_led 0 rs (lend_entries k asked lend)) ≡ true)
 lend_idle k asked limit (NoTaker a) rs many silent numbers is own last whole = refused_idle a rs numbers is
 lend_idle k asked limit (NoTakerCut a n q) rs many silent numbers is own last whole = cc
 lend_idle k asked limit (LentCut a answers n end) rs many silent numbers is own last whole = cc
 lend_idle k asked limit (LentLost a answers n m q) rs many silent numbers is own last whole = cc
 lend_idle k asked limit (Lent a answers n) rs many silent numbers is own last whole =
-    let at = stands_at_last k asked limit answers n in
-    let parts = and_parts (is_address a) (are_rounds k asked answers n AtHost && at) is in
-    let are = and_parts (are_rounds k asked answers n AtHost) at parts.1 in
-    let low = ap is_address (sym (last refl)) ∙ parts.0 in
+    let low = ap is_address (sym (last refl)) ∙ (and_parts (is_address a) _ is).0 in
     let hand = handed k rs (sym many) numbers silent low in
-    let turn = turn_talk k asked rs (sym many) silent numbers answers n AtHost low are.0 own in
+    let turn = turn_talk k asked rs (sym many) silent numbers answers n AtHost low (are_lent k asked limit (Lent a answers n) is) own in
     let rounds = ended_after k (rounds_entries k asked answers) n AtHost in
     let begun = roles_led 0 rs (handed_entries k k) in
     let roles : roles_led 0 rs (lend_entries k asked (Lent k answers n)) ≡ roles_led k (roles_led k begun rounds) (commanded 0 ifc) =

@@ -10,7 +10,7 @@ map-either : {A B : Type 0} (f : A → B) (r s : Option A) → option_map f (opt
 map-either f None s = refl
 map-either f (Some a) s = refl
 
--- of two lists one behind the other
+-- of two lists one after the other
 pub paper_of-append : (ds es : List DeviceState) → paper_of (ds ++ es) ≡ option_or (paper_of ds) (paper_of es)
 paper_of-append ds es =
     ap (option_map (λ (d : DeviceState). (d.heard, d.heard_count))) (find-append (λ d. has_id printer_id d.accessory) ds es)

@@ -1,13 +1,11 @@
 -- The kinds of frames that every device passes on.
-use Rattle.std.proofs.Common.{◌≡◌, ◌≤◌, ◌+◌, ℕ, Bool, true, false, None, refl, sym, ap, subst, ◌∙◌, nat_le}
+use Rattle.std.proofs.Common.{◌≡◌, ◌≤◌, ◌+◌, ℕ, true, false, None, refl, ap, subst, ◌∙◌, nat_le}
 use Rattle.std.proofs.lemmas.Bool.{and_from, le-leb}
-use Rattle.il_frames.specs.declared.frame.Class.{Class}
-use Rattle.il_frames.specs.declared.frame.Class.TheVariants as class
 use Rattle.il_frames.specs.declared.frame.Frame.{Frame}
 use Rattle.il_frames.specs.declared.message.Message.{Message}
 use Rattle.il_frames.specs.declared.message.Message.TheVariants as msg
-use Rattle.il_frames.specs.Frames.{byte_of, class_of, is_data, is_data_class}
-use Rattle.il_frames.specs.Messages.{message_of, message_at}
+use Rattle.il_frames.specs.Frames.{byte_of, is_data}
+use Rattle.il_frames.specs.Messages.{message_of}
 use Rattle.il_device.specs.declared.device.Out.{Out}
 use Rattle.il_device.specs.declared.device.Out.TheVariants.{Pass}
 use Rattle.il_device.specs.declared.interface.Turn.TheVariants as turn
@@ -18,6 +16,7 @@ use Rattle.il_device.specs.Takes.{Takes, Answers, turn_of, turn_at, turn_at_star
 use Rattle.il_device.proofs.Laws.{Takes-plain, own-silent, turn_at-plain, message_of-aad}
 use Rattle.il_frames.specs.NamedFrames.{aad}
 use Rattle.il_ring.specs.Outcomes.{HearsNothing, Obeys}
+use Rattle.il_ring.proofs.MessageKinds.{never_data, no_data_of}
 use Rattle.il_ring.proofs.Passes.{PassesOn}
 
 -- ---- what asks nothing of a device
@@ -54,30 +53,21 @@ Any k d = Unit {0}
 abbrev pub Silent : ℕ → DeviceState → Type 0
 Silent k d = d.roles.talks ≡ false
 
+-- devices that each pass a frame on as it is, and no data or end frame
+same_passes : (f : Frame) (Fits : ℕ → DeviceState → Type 0) → is_data f ≡ false → ((k : ℕ) (d e : DeviceState) (out : Out) → Fits k d → Takes d f out e → (out ≡ Pass f) × Obeys (message_of f) d e) → PassesOn (Is f) Fits (Obeys (message_of f))
+same_passes f Fits other goes = record {
+  no_data = λ k g is. ap is_data is ∙ other;
+  step = λ k d e g out fits is takes. let went = goes k d e out fits (subst (λ g. Takes d g out e) is takes) in (f, went.0, refl, went.1);
+}
+
 -- ---- commands and ready messages
 
-data_not_plain : (k : Class) (byte : ℕ) → is_data_class k ≡ true → is_plain (message_at k byte) ≡ false
-data_not_plain class.Dab byte e = refl
-data_not_plain class.Dsr byte e = refl
-data_not_plain class.End byte e = refl
-data_not_plain class.Esr byte e = refl
-data_not_plain _ byte e = cc
-
-plain_by : (data_frame : Bool) (f : Frame) → is_data f ≡ data_frame → is_plain (message_of f) ≡ true → is_data f ≡ false
-plain_by true f is plain = let clash = sym plain ∙ data_not_plain (class_of f) (byte_of f) is in cc
-plain_by false f is plain = is
-
 pub plain_no_data : (f : Frame) → is_plain (message_of f) ≡ true → is_data f ≡ false
-plain_no_data f plain = plain_by (is_data f) f refl plain
+plain_no_data f plain = no_data_of is_plain (never_data is_plain (λ n. refl) (λ n. refl) (λ n. refl) (λ n. refl)) f plain
 
 -- every device passes them as they are
 pub plain_passes : (f : Frame) → is_plain (message_of f) ≡ true → PassesOn (Is f) Any (Obeys (message_of f))
-plain_passes f plain = record {
-  no_data = λ k g is. ap is_data is ∙ plain_no_data f plain;
-  step = λ k d e g out any is takes.
-      let taken : Takes d f out e = subst (λ g. Takes d g out e) is takes in
-      (f, (Takes-plain d f out e plain taken).answer, refl, obeys d e f out (turn_at-plain d.roles d.own d.accessory (message_of f) plain) taken);
-}
+plain_passes f plain = same_passes f Any (plain_no_data f plain) (λ k d e out any taken. ((Takes-plain d f out e plain taken).answer, obeys d e f out (turn_at-plain d.roles d.own d.accessory (message_of f) plain) taken))
 
 -- ---- start messages
 
@@ -95,31 +85,18 @@ start_as d e f msg.Sdi start = refl
 start_as d e f msg.Sai start = refl
 start_as d e f _ start = cc
 
-data_not_start : (k : Class) (byte : ℕ) → is_data_class k ≡ true → is_start (message_at k byte) ≡ false
-data_not_start class.Dab byte e = refl
-data_not_start class.Dsr byte e = refl
-data_not_start class.End byte e = refl
-data_not_start class.Esr byte e = refl
-data_not_start _ byte e = cc
-
-start_by : (data_frame : Bool) (f : Frame) → is_data f ≡ data_frame → is_start (message_of f) ≡ true → is_data f ≡ false
-start_by true f is start = let clash = sym start ∙ data_not_start (class_of f) (byte_of f) is in cc
-start_by false f is start = is
-
 pub start_no_data : (f : Frame) → is_start (message_of f) ≡ true → is_data f ≡ false
-start_no_data f start = start_by (is_data f) f refl start
+start_no_data f start = no_data_of is_start (never_data is_start (λ n. refl) (λ n. refl) (λ n. refl) (λ n. refl)) f start
 
 -- devices that do not talk pass them as they are
 pub start_passes : (f : Frame) → is_start (message_of f) ≡ true → PassesOn (Is f) Silent (Obeys (message_of f))
-start_passes f start = record {
-  no_data = λ k g is. ap is_data is ∙ start_no_data f start;
-  step = λ k d e g out silent is takes.
-      let taken : Takes d f out e = subst (λ g. Takes d g out e) is takes in
-      let asked : turn_of d f ≡ turn.Pass = start_turn d (message_of f) start (own-silent d taken.before silent) silent in
-      (f, goes_as d e f out asked taken ∙ ap (λ g. Pass g) (start_as d e f (message_of f) start), refl, obeys d e f out asked taken);
-}
+start_passes f start =
+    same_passes f Silent (start_no_data f start)
+    (λ k d e out silent taken.
+    let asked : turn_of d f ≡ turn.Pass = start_turn d (message_of f) start (own-silent d taken.before silent) silent in
+    (goes_as d e f out asked taken ∙ ap (λ g. Pass g) (start_as d e f (message_of f) start), obeys d e f out asked taken))
 
--- ---- AAD, where no device has an address
+-- ---- AAD, if no device has an address
 
 -- party k is one of thirty, and has no address
 abbrev pub Unaddressed : ℕ → DeviceState → Type 0

@@ -25,13 +25,13 @@ use Rattle.il_ring.proofs.RoundCounts.{round_journey}
 abbrev pub RoundEnd : {M : Type 0} → (RingView M) → Option Flight → Trip → Arrival → RingView M → Type 0
 RoundEnd r held t answer s = (s.books ≡ home (books_at (record r.books { held = held }) t) t.flight) × (answer ≡ arrived (arriving r.books.plan t.crossings t.flight))
 
-pub round_end : {M : Type 0} (view : M → MediumView) (r s : RingView M) (held : Option Flight) (f : Flight) (answer : Arrival) (round : Round view r held f answer s) → RoundEnd r held round.behind answer s
+pub round_end : {M : Type 0} (view : M → MediumView) (r s : RingView M) (held : Option Flight) (f : Flight) (answer : Arrival) (round : Round view r held f answer s) → RoundEnd r held round.past_all answer s
 round_end view r s held f answer round = (round.books, round.answer_is)
 
 -- ---- over the last link
 
 module _ {M : Type 0} (r s : RingView M) (held : Option Flight) (f : Frame) (answer : Arrival) where
-  -- where the frame has passed all devices
+  -- if the frame has passed all devices
   pub at_last : (g : Frame) (t : Trip) (fault : Option PlanFault) → r.books.crossings ≤ last_crossing → is_data g ≡ false
       → t ≡ trip (risen_by (length (devices_of r)) r.books.crossings) r.books.log (Some (record (sourced 0 f) { now = g })) → IsClear r.books.plan r.books.crossings (length (devices_of r))
       → next_fault r.books.plan (risen_by (length (devices_of r)) r.books.crossings) ≡ fault → RoundEnd r held t answer s → Returned r held f g answer s ⊎ WasLost r 0 f answer s
@@ -74,7 +74,7 @@ module _ {M : Type 0} (r s : RingView M) (held : Option Flight) (f : Frame) (ans
             (ap (met (hops_of r.books.plan) r.books.crossings) (sym (ap (λ (b : BooksView). b.crossings) lost ∙ risen_by_last k r.books.crossings)) ∙ none);
       })
 
-  -- where it was lost before
+  -- if it was lost before
   pub lost_before : (reached : ℕ) (t : Trip) → r.books.crossings ≤ last_crossing → reached < length (devices_of r)
       → t ≡ trip (risen_by (suc reached) r.books.crossings) (r.books.log ++ entry 0 f (outcome.Lost (1 + reached)) ∷ []) None
       → next_fault r.books.plan (risen_by reached r.books.crossings) ≢ None → RoundEnd r held t answer s → WasLost r 0 f answer s
@@ -112,11 +112,11 @@ passed_round view Q P R rule r s held f answer within fit is round =
       reached = k;
       took = on.took;
       end = ⊎_elim (λ back. inl (on.now, last, refl, back)) (λ lost. inr lost)
-          (at_last r s held f answer on.now round.behind (next_fault r.books.plan (risen_by k r.books.crossings)) within (rule.no_data (suc k) on.now last) on.trip_is on.clear refl (round_end view r s held (sourced 0 f) answer round));
+          (at_last r s held f answer on.now round.past_all (next_fault r.books.plan (risen_by k r.books.crossings)) within (rule.no_data (suc k) on.now last) on.trip_is on.clear refl (round_end view r s held (sourced 0 f) answer round));
     })
     (λ lost. record {
       reached = lost.reached;
       took = lost.took;
-      end = inr (lost_before r s held f answer lost.reached round.behind within lost.within lost.trip_is lost.planned (round_end view r s held (sourced 0 f) answer round));
+      end = inr (lost_before r s held f answer lost.reached round.past_all within lost.within lost.trip_is lost.planned (round_end view r s held (sourced 0 f) answer round));
     })
-    (goes_past Q P R rule r.books.plan 1 r.books.crossings r.books.log (sourced 0 f) (devices_of r) (devices_of s) round.behind fit is (round_journey view r s held (sourced 0 f) answer round))
+    (goes_past Q P R rule r.books.plan 1 r.books.crossings r.books.log (sourced 0 f) (devices_of r) (devices_of s) round.past_all fit is (round_journey view r s held (sourced 0 f) answer round))

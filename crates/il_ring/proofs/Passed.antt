@@ -26,7 +26,7 @@ rises_on p plan low n lt rises =
     let parts = and_parts (nat_lt low p.hop) (is_fault p.fault && rises_from p.hop plan) rises in
     and_from (nat_lt n p.hop) (is_fault p.fault && rises_from p.hop plan) (lt-ltb n p.hop lt) parts.1
 
--- nothing is planned at a crossing that the plan begins behind
+-- nothing is planned at a crossing that the plan begins after
 none_before : (plan : List Planned) (low n : ℕ) → n ≤ low → rises_from low plan ≡ true → fault_at plan n ≡ None
 none_before [] low n le rises = refl
 none_before (p ∷ plan) low n le rises =
@@ -47,7 +47,7 @@ nothing_planned plan n passed p counted within look other at =
 
 -- ---- crossings at which nothing is planned
 
--- the head of what is still to come lies further on than the next crossing, where nothing is planned there
+-- the head of what is still to come lies further on than the next crossing, if nothing is planned there
 head_on : (p : Planned) (plan : List Planned) (n : ℕ) → fault_at (p ∷ plan) n ≡ None → p.hop ≢ n
 head_on p plan n none same = let found : fault_at (p ∷ plan) n ≡ Some p.fault = grind (arith, nat_tests, same) in cc
 
@@ -58,7 +58,7 @@ rises_over (p ∷ plan) n none rises =
     let above = (front_of p plan n rises).0 in
     rises_on p plan n (n + 1) (omega (arith, above, other)) rises
 
--- one crossing further on, where nothing is planned
+-- one crossing further on, if nothing is planned
 pub passed_over : (plan : List Planned) (n passed : ℕ) → fault_at plan (n + 1) ≡ None → IsPassed plan n passed → IsPassed plan (n + 1) passed
 passed_over plan n passed none at = record {
   later = λ m above. at.later m (omega (arith, above));
@@ -75,7 +75,7 @@ unplanned_before plan n passed p within look at m above below =
     let again = rises_on p rest n (p.hop - 1) (omega (arith, front)) rises in
     at.later m above ∙ ap (λ xs. fault_at xs m) coming ∙ none_before (p ∷ rest) (p.hop - 1) m below again
 
--- fewer of them, or the ones behind some of them
+-- fewer of them, or the ones after some of them
 pub clear_on : (plan : List Planned) (n m some more : ℕ) → n ≤ m → m + more ≤ n + some → IsClear plan n some → IsClear plan m more
 clear_on plan n m some more from to clear = record {
   counted = omega (arith, to, clear.counted);

@@ -19,7 +19,7 @@ use Rattle.il_ring.specs.Journeys.{Trip, trip, answered, missed, Meets, Reaches,
 use Rattle.il_ring.specs.Lists.{Each, First}
 use Rattle.il_ring.proofs.Faults.{IsClear}
 
--- Q holds of the frame as it comes to party k, P of the device there, and R of the device before and behind it.
+-- Q holds of the frame as it comes to party k, P of the device there, and R of the device before and after it.
 pub record PassesOn (Q : ℕ → Frame → Type 0) (P : ℕ → DeviceState → Type 0) (R : DeviceState → DeviceState → Type 0) : Type 0 where
   pub no_data : (k : ℕ) (f : Frame) → Q k f → is_data f ≡ false
   pub step : (k : ℕ) (d e : DeviceState) (f : Frame) (out : Out) → P k d → Q k f → Takes d f out e → (h : Frame) × (out ≡ Pass h) × Q (k + 1) h × R d e
@@ -29,7 +29,7 @@ pub plain_hit : (fault : PlanFault) (f : Flight) → is_data f.now ≡ false →
 plain_hit Lose f plain = refl
 plain_hit (Alter change) f plain = ap (λ b. if b && not f.altered then Some (record f { now = altered_by change f.now; altered = true }) else None) plain
 
--- behind a loss nothing comes to any device
+-- after a loss nothing comes to any device
 pub nothing_comes : (plan : List Planned) (k : ℕ) (t u : Trip) (ds es : List DeviceState) (R : DeviceState → DeviceState → Type 0) → t.flight ≡ None → Journey plan k t ds u es → (u ≡ t) × First R 0 ds es
 nothing_comes plan k t u [] [] R lost journey = (journey, tt)
 nothing_comes plan k t u (d ∷ ds) (e ∷ es) R lost journey =
@@ -48,8 +48,8 @@ module _ (Q : ℕ → Frame → Type 0) (P : ℕ → DeviceState → Type 0) (R 
     pub clear : IsClear plan n (length ds)
     pub took : First R (length ds) ds es
 
-  -- lost behind so many of them
-  pub record LostBehind (plan : List Planned) (k n : ℕ) (log : List Entry) (f : Flight) (ds : List DeviceState) (u : Trip) (es : List DeviceState) : Type 0 where
+  -- lost after this many of them
+  pub record LostAfter (plan : List Planned) (k n : ℕ) (log : List Entry) (f : Flight) (ds : List DeviceState) (u : Trip) (es : List DeviceState) : Type 0 where
     pub reached : ℕ
     pub within : reached < length ds
     pub trip_is : u ≡ trip (risen_by (suc reached) n) (log ++ lost_at f (k + reached) ∷ []) None
@@ -58,7 +58,7 @@ module _ (Q : ℕ → Frame → Type 0) (P : ℕ → DeviceState → Type 0) (R 
     pub took : First R reached ds es
 
   abbrev pub Goes : List Planned → ℕ → ℕ → List Entry → Flight → List DeviceState → Trip → List DeviceState → Type 0
-  Goes plan k n log f ds u es = Through plan k n log f ds u es ⊎ LostBehind plan k n log f ds u es
+  Goes plan k n log f ds u es = Through plan k n log f ds u es ⊎ LostAfter plan k n log f ds u es
 
   further : (plan : List Planned) (k n : ℕ) (log : List Entry) (f : Flight) (h : Frame) (d e : DeviceState) (ds es : List DeviceState) (u : Trip) → next_fault plan n ≡ None → R d e
       → Goes plan (k + 1) (risen n) log (record f { now = h }) ds u es → Goes plan k n log f (d ∷ ds) u (e ∷ es)

@@ -1,4 +1,4 @@
--- Which frame goes on behind a device, and what it does to roles.
+-- Which frame goes on after a device, and what it does to roles.
 use Rattle.std.proofs.Common.{◌≡◌, ◌≤◌, ◌+◌, ◌==◌, inl, inr, ⊎_elim, ℕ, suc, Bool, true, false, Option, Some, None, refl, sym, ap, ◌∙◌, arith, nat_le}
 use Rattle.std.specs.Prelude.{if◌then◌else◌}
 use Rattle.std.proofs.lemmas.Bool.{and_parts, eq-eqb, ne_eqb, leb-true}
@@ -96,7 +96,7 @@ identify_class r place true class.Isr byte e = refl
 identify_class r place false class.Isr byte e = refl
 identify_class r place wants _ byte e = cc
 
--- behind a device the frame carries what the message is there
+-- after a device the frame carries what the message is there
 pub carries_on : (m : Message) (d e : DeviceState) (f h : Frame) → Carries m f → Takes d f (Pass h) e → Carries (passed_on m d.roles) h
 carries_on m d e f h (Exactly exact is) takes =
     let on = passes_on d e f h takes in

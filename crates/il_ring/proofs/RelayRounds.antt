@@ -39,7 +39,7 @@ use Rattle.il_ring.proofs.DataHome.{data_home}
 use Rattle.il_ring.proofs.EndsHome.{EndTaken, EndLost, end_home}
 use Rattle.il_ring.proofs.Echoes.{Arrived, AsItWas, Otherwise, Answered, Gone, to_talker}
 use Rattle.il_ring.proofs.Splits.{journey_parts, each_silent, silent_still}
-use Rattle.il_ring.proofs.StartRounds.{sent_home, heard_silent, still_behind, length_split}
+use Rattle.il_ring.proofs.StartRounds.{sent_home, heard_silent, still_after, length_split}
 use Rattle.il_ring.proofs.Later.{Later, later_then, journey_later, end_later, met_later}
 use Rattle.il_ring.proofs.RoundCounts.{round_journey}
 
@@ -88,7 +88,7 @@ goes_silent plan k n log f ds es u (inr (inr lost)) silent = heard_silent lost.r
 abbrev pub SendsThen : {M : Type 0} → RingView M → Flight → OwnFrame → Bool → Frame → Frame → Arrival → RingView M → Type 0
 SendsThen r held own right back h answer s = ((more : SendsMore r held own back answer s) × (more.sent ≡ h)) ⊎ (EndsSending r held right back answer s × (h ≡ (if right then eto else ete)))
 
--- The held frame came back to its source behind m others, whose answer was this.
+-- The held frame came back to its source after m others, whose answer was this.
 pub record AnsweredSo {M : Type 0} (r : RingView M) (held : Flight) (own : OwnFrame) (m : ℕ) (out : Out) (answer : Arrival) (s : RingView M) : Type 0 where
   pub right : Bool
   pub back : Frame
@@ -96,7 +96,7 @@ pub record AnsweredSo {M : Type 0} (r : RingView M) (held : Flight) (own : OwnFr
   pub good : right ≡ true → (held.altered ≡ false) × IsClear r.books.plan r.books.crossings (suc m)
   pub sent : Frame
   pub out_is : out ≡ Source sent
-  pub behind : SendsThen r held own right back sent answer s
+  pub after : SendsThen r held own right back sent answer s
 
 module _ {M : Type 0} (view : M → MediumView) (r s : RingView M) (held : Flight) (answer : Arrival) (own : OwnFrame) (back : Frame) (bs cs : List DeviceState) (e : DeviceState) (rest rest_then : List DeviceState) (u : Trip) where
   abbrev books_so : BooksView
@@ -108,15 +108,15 @@ module _ {M : Type 0} (view : M → MediumView) (r s : RingView M) (held : Fligh
   abbrev Ending : Type 0
   Ending = (s.books ≡ home (books_at (record r.books { held = None }) u) u.flight) × (answer ≡ arrived (arriving r.books.plan u.crossings u.flight))
 
-  -- the devices behind the call, with the talker's own frame
+  -- the devices after the call, with the talker's own frame
   talks_on : (next : Option OwnFrame) → held.source ≡ length bs + 1 → length cs ≡ length bs → devices_of s ≡ cs ++ e ∷ rest_then → AllSilent cs → AllSilent rest_then → e.roles.talks ≡ true → e.own ≡ next → IsTalking held.source next (devices_of s)
-  talks_on next at same devices silent silent_behind talks own_is = record { before = cs; talker = e; behind = rest_then; devices_are = devices; party = omega (arith, at, same); silent = silent; talks = talks; own_is = own_is; silent_behind = silent_behind }
+  talks_on next at same devices silent silent_after talks own_is = record { before = cs; talker = e; after = rest_then; devices_are = devices; party = omega (arith, at, same); silent = silent; talks = talks; own_is = own_is; silent_after = silent_after }
 
   more_sent : (h : Frame) (next : OwnFrame) → IsPlan r.books.plan → r.books.crossings ≤ last_crossing → held.source ≡ length bs + 1 → length cs ≡ length bs → held.source + length rest ≤ length (devices_of r) → devices_of s ≡ cs ++ e ∷ rest_then → AllSilent cs → AllSilent rest
       → e.roles.talks ≡ true → e.own ≡ Some next → next.frame ≡ h → next.stopped ≡ false → is_data h ≡ true → with_service back ≡ with_service held.sent → held.altered ≡ false → (own.stopped || own.last) ≡ false → IsClear r.books.plan r.books.crossings (suc (length bs))
       → Journey r.books.plan (held.source + 1) (trip so_far (r.books.log ++ back_entry held back ∷ []) (Some (sourced held.source h))) rest u rest_then → Ending → (more : SendsMore r held own back answer s) × (more.sent ≡ h)
-  more_sent h next plan within at same on devices silent silent_behind talks own_is frame runs data_frame right unaltered goes_on clear journey ending =
-      let goes = data_past r.books.plan (held.source + 1) so_far books_so.log (sourced held.source h) rest rest_then u plan (each_silent (held.source + 1) rest silent_behind) data_frame journey in
+  more_sent h next plan within at same on devices silent silent_after talks own_is frame runs data_frame right unaltered goes_on clear journey ending =
+      let goes = data_past r.books.plan (held.source + 1) so_far books_so.log (sourced held.source h) rest rest_then u plan (each_silent (held.source + 1) rest silent_after) data_frame journey in
       let homed = data_home books_so (held.source + 1) so_far (sourced held.source h) rest rest_then u s.books answer plan goes ending in (
         record {
           right = right;
@@ -127,7 +127,7 @@ module _ {M : Type 0} (view : M → MediumView) (r s : RingView M) (held : Fligh
           next = next;
           next_frame = frame;
           runs = runs;
-          talking = talks_on (Some next) at same devices silent (still_behind books_so (held.source + 1) so_far (sourced held.source h) rest rest_then s.books answer homed silent_behind) talks own_is;
+          talking = talks_on (Some next) at same devices silent (still_after books_so (held.source + 1) so_far (sourced held.source h) rest rest_then s.books answer homed silent_after) talks own_is;
           end = sent_home r s None answer held.source h (back_entry held back ∷ []) (suc (length bs)) rest rest_then (λ party far. far) within (omega (arith, at)) on clear homed;
         },
         refl,
@@ -137,10 +137,10 @@ module _ {M : Type 0} (view : M → MediumView) (r s : RingView M) (held : Fligh
   end_sent : (right : Bool) (h : Frame) → h ≡ (if right then eto else ete) → is_plain (message_of h) ≡ true → ((r : Roles) → roles_after r (message_of h) ≡ r) → r.books.crossings ≤ last_crossing → held.source ≡ length bs + 1 → length cs ≡ length bs
       → held.source + length rest ≤ length (devices_of r) → devices_of s ≡ cs ++ e ∷ rest_then → AllSilent cs → AllSilent rest → e.roles.talks ≡ true → e.own ≡ None → (right ≡ true → IsClear r.books.plan r.books.crossings (suc (length bs)))
       → Journey r.books.plan (held.source + 1) (trip so_far (r.books.log ++ back_entry held back ∷ []) (Some (sourced held.source h))) rest u rest_then → Ending → EndsSending r held right back answer s
-  end_sent right h is plain keeps within at same on devices silent silent_behind talks own_is clear journey ending =
+  end_sent right h is plain keeps within at same on devices silent silent_after talks own_is clear journey ending =
       let homed = end_home books_so (held.source + 1) so_far held.source h rest rest_then u s.books answer plain (omega (arith, at)) journey ending in
       record {
-        talking = talks_on None at same devices silent (silent_still (Obeys (message_of h)) homed.reached rest rest_then (λ d e obeys. obeys.roles ∙ keeps d.roles) homed.took silent_behind) talks own_is;
+        talking = talks_on None at same devices silent (silent_still (Obeys (message_of h)) homed.reached rest rest_then (λ d e obeys. obeys.roles ∙ keeps d.roles) homed.took silent_after) talks own_is;
         end = ⊎_elim
             (λ (taken : EndTaken books_so so_far held.source h rest rest_then s.books answer). inl (
               taken.answer_is ∙ ap (λ h. arrival.Frame h) is,
@@ -170,15 +170,15 @@ module _ {M : Type 0} (view : M → MediumView) (r s : RingView M) (held : Fligh
   by_echo : (right : Bool) (h : Frame) (d : DeviceState) → IsPlan r.books.plan → r.books.crossings ≤ last_crossing → held.source ≡ length bs + 1 → length cs ≡ length bs → held.source + length rest ≤ length (devices_of r) → devices_of s ≡ cs ++ e ∷ rest_then → AllSilent cs → AllSilent rest
       → e.roles.talks ≡ true → AnswersEcho right own (Source h) e → (right ≡ true → (with_service back ≡ with_service held.sent) × (held.altered ≡ false) × IsClear r.books.plan r.books.crossings (suc (length bs)))
       → Journey r.books.plan (held.source + 1) (trip so_far (r.books.log ++ back_entry held back ∷ []) (Some (sourced held.source h))) rest u rest_then → Ending → SendsThen r held own right back h answer s
-  by_echo false h d plan within at same on devices silent silent_behind talks ends_as clear journey ending =
+  by_echo false h d plan within at same on devices silent silent_after talks ends_as clear journey ending =
       let is : h ≡ ete = sent_frame h ete ends_as.answer in
-      inr (end_sent false h is (ap (λ h. is_plain (message_of h)) is) (λ r. ap (λ h. roles_after r (message_of h)) is) within at same on devices silent silent_behind talks ends_as.off_loop (λ e. let clash : false ≡ true = e in cc) journey ending, is)
-  by_echo true h d plan within at same on devices silent silent_behind talks on_echo clear journey ending = by_over (own.stopped || own.last) refl on_echo
+      inr (end_sent false h is (ap (λ h. is_plain (message_of h)) is) (λ r. ap (λ h. roles_after r (message_of h)) is) within at same on devices silent silent_after talks ends_as.off_loop (λ e. let clash : false ≡ true = e in cc) journey ending, is)
+  by_echo true h d plan within at same on devices silent silent_after talks on_echo clear journey ending = by_over (own.stopped || own.last) refl on_echo
     where
       ended : Ends eto (Source h) e → SendsThen r held own true back h answer s
       ended ends_as =
           let is : h ≡ eto = sent_frame h eto ends_as.answer in
-          inr (end_sent true h is (ap (λ h. is_plain (message_of h)) is) (λ r. ap (λ h. roles_after r (message_of h)) is) within at same on devices silent silent_behind talks ends_as.off_loop (λ e. (clear e).2) journey ending, is)
+          inr (end_sent true h is (ap (λ h. is_plain (message_of h)) is) (λ r. ap (λ h. roles_after r (message_of h)) is) within at same on devices silent silent_after talks ends_as.off_loop (λ e. (clear e).2) journey ending, is)
 
       by_over : (over : Bool) → (own.stopped || own.last) ≡ over → GoesOn over (Source h) e → SendsThen r held own true back h answer s
       by_over true is ends_as = ended ends_as
@@ -186,7 +186,7 @@ module _ {M : Type 0} (view : M → MediumView) (r s : RingView M) (held : Fligh
       by_over false is (inr sends) =
           let frame : sends.0.frame ≡ h = sym (sent_frame h sends.0.frame sends.1.answer) in
           let all = clear refl in
-          inl (more_sent h sends.0 plan within at same on devices silent silent_behind talks sends.1.on_loop frame sends.1.runs (ap is_data (sym frame) ∙ sends.1.is_data) all.0 all.1 is all.2 journey ending)
+          inl (more_sent h sends.0 plan within at same on devices silent silent_after talks sends.1.on_loop frame sends.1.runs (ap is_data (sym frame) ∙ sends.1.is_data) all.0 all.1 is all.2 journey ending)
 
 -- ---- the whole round
 
@@ -235,12 +235,12 @@ came_back r s held own back m data_frame echo met_some = record { data_frame = d
 back_is : (held : Flight) (k : ℕ) (back : Frame) (altered : Bool) → held.source ≡ k → ended_at (record held { now = back; altered = altered }) k ≡ back_entry held back
 back_is held k back altered at = ap (λ own. entry held.source held.sent (if own then outcome.Back back else outcome.Taken k)) (eq-eqb held.source k at)
 
--- where it came to its source
+-- if it came to its source
 pub answered_round : {M : Type 0} (view : M → MediumView) (r s : RingView M) (held : Flight) (own : OwnFrame) (answer : Arrival) (bs cs : List DeviceState) (d e : DeviceState) (rest rest_then : List DeviceState) (u : Trip) → r.books.crossings ≤ last_crossing → IsPlan r.books.plan
     → held.source ≡ 1 + length bs → length cs ≡ length bs → held.source + length rest ≤ length (devices_of r) → devices_of s ≡ cs ++ e ∷ rest_then → AllSilent cs → AllSilent rest → d.roles.talks ≡ true → d.own ≡ Some own → own.frame ≡ held.sent → StoodSo held
     → (came : Answered Takes r.books.plan (1 + length bs) r.books.crossings r.books.log held bs d rest u e rest_then) → (s.books ≡ home (books_at (record r.books { held = None }) u) u.flight) × (answer ≡ arrived (arriving r.books.plan u.crossings u.flight)) → Later u.crossings s.books.crossings
     → AnsweredSo r held own (length bs) came.out answer s
-answered_round view r s held own answer bs cs d e rest rest_then u within plan at same on devices silent silent_behind talks own_is frame stood came ending later = by_out came.out refl came.takes came.journey
+answered_round view r s held own answer bs cs d e rest rest_then u within plan at same on devices silent silent_after talks own_is frame stood came ending later = by_out came.out refl came.takes came.journey
   where
     echo : EchoIs r.books.plan r.books.crossings (length bs) held own came.back
     echo = echo_is r.books.plan r.books.crossings (length bs) held own came.back held.altered refl frame stood came.came
@@ -260,13 +260,13 @@ answered_round view r s held own answer bs cs d e rest rest_then u within plan a
           good = λ e. let all = echo.good e in (all.1, all.2);
           sent = h;
           out_is = is;
-          behind =
-              by_echo view r s held answer own came.back bs cs e rest rest_then u echo.right h d plan within (omega (arith, at)) same on devices silent silent_behind
+          after =
+              by_echo view r s held answer own came.back bs cs e rest rest_then u echo.right h d plan within (omega (arith, at)) same on devices silent silent_after
               (ap (λ r. r.talks) (takes.roles ∙ roles_after-data d.roles came.back came.data_frame) ∙ talks)
               (subst (λ right. AnswersEcho right own (Source h) e) echo.test (echo_answer d e own came.back (Source h) came.data_frame own_is takes)) echo.good onward ending;
         }
 
--- where it was lost before
+-- if it was lost before
 pub gone_round : {M : Type 0} (r s : RingView M) (held : Flight) (answer : Arrival) (k m : ℕ) (u : Trip) → r.books.crossings ≤ last_crossing → k ≤ length (devices_of r) → m ≤ length (devices_of r) → 1 ≤ k → k ≤ held.source → m < held.source → Gone r.books.plan 1 k m r.books.crossings r.books.log held u
     → (s.books ≡ home (books_at (record r.books { held = None }) u) u.flight) × (answer ≡ arrived (arriving r.books.plan u.crossings u.flight)) → IsLostNow r [] held.source held.sent answer s
 gone_round r s held answer k m u within on far first here_or before gone ending =
@@ -282,16 +282,16 @@ gone_round r s held answer k m u within on far first here_or before gone ending 
       met_some = λ none. met_at r.books.plan gone.crossed (suc gone.crossed) n within (omega arith) gone.planned (ap (met (hops_of r.books.plan) n) (sym (ap (λ (b : BooksView). b.crossings) books)) ∙ none);
     }
 
--- The held frame goes on from the host, where its source is the one device that talks and has it on the loop: with what the
+-- The held frame goes on from the host, if its source is the one device that talks and has it on the loop: with what the
 -- source sent then.
 pub relay_shown : {M : Type 0} (view : M → MediumView) (r s : RingView M) (held : Flight) (own : OwnFrame) (answer : Arrival) → r.books.crossings ≤ last_crossing → IsPlan r.books.plan → IsTalking held.source (Some own) (devices_of r) → own.frame ≡ held.sent → StoodSo held
     → Round view r None held answer s → IsLostNow r [] held.source held.sent answer s ⊎ ((m : ℕ) × (held.source ≡ suc m) × ((out : Out) × AnsweredSo r held own m out answer s))
 relay_shown view r s held own answer within plan talking frame stood round =
     let bs = talking.before in
-    let rest = talking.behind in
+    let rest = talking.after in
     let d = talking.talker in
     let n = r.books.crossings in
-    let u = round.behind in
+    let u = round.past_all in
     let k = 1 + length bs in
     let at : held.source ≡ k = omega (arith, talking.party) in
     let parts = journey_parts r.books.plan 1 (trip_of r.books (Some held)) u bs (d ∷ rest) (devices_of s) (subst (λ ds. Journey r.books.plan 1 (trip_of r.books (Some held)) ds u (devices_of s)) talking.devices_are (round_journey view r s None held answer round)) in
@@ -303,7 +303,7 @@ relay_shown view r s held own answer within plan talking frame stood round =
     let ending : (s.books ≡ home (books_at (record r.books { held = None }) u) u.flight) × (answer ≡ arrived (arriving r.books.plan u.crossings u.flight)) = (round.books, round.answer_is) in
     ⊎_elim
     (λ (answer_at : Answered Takes r.books.plan k n r.books.log held bs d rest u head.e head.rest_then).
-    inr (length bs, omega (arith, at), (answer_at.out, answered_round view r s held own answer bs cs d head.e rest head.rest_then u within plan at parts.same (omega (arith, at, all)) devices (goes_silent r.books.plan 1 n r.books.log held bs cs parts.middle goes talking.silent) talking.silent_behind talking.talks talking.own_is frame stood answer_at ending (end_later view r s None held answer round))))
+    inr (length bs, omega (arith, at), (answer_at.out, answered_round view r s held own answer bs cs d head.e rest head.rest_then u within plan at parts.same (omega (arith, at, all)) devices (goes_silent r.books.plan 1 n r.books.log held bs cs parts.middle goes talking.silent) talking.silent_after talking.talks talking.own_is frame stood answer_at ending (end_later view r s None held answer round))))
     (λ gone. inl (gone_round r s held answer k (length bs) u within (omega (arith, all)) (omega (arith, all)) (omega arith) (omega (arith, at)) (omega (arith, at)) gone.0 ending))
     (to_talker Takes r.books.plan 1 k n r.books.log held bs d rest u head.e head.rest_then parts.middle head.middle cs plan goes head.passage head.journey)
 
@@ -312,7 +312,7 @@ relayed r s held own answer (inl lost) = inl lost
 relayed r s held own answer (inr shown) = by_answer shown.0 shown.2.0 shown.2.1
   where
     by_answer : (m : ℕ) (out : Out) → AnsweredSo r held own m out answer s → Relayed r held own answer s
-    by_answer m out a = inr (a.right, a.back, a.came, ⊎_elim (λ more. inl more.0) (λ ends. inr ends.0) a.behind)
+    by_answer m out a = inr (a.right, a.back, a.came, ⊎_elim (λ more. inl more.0) (λ ends. inr ends.0) a.after)
 
 pub relay_round : {M : Type 0} (view : M → MediumView) (r s : RingView M) (held : Flight) (own : OwnFrame) (answer : Arrival) → r.books.crossings ≤ last_crossing → IsPlan r.books.plan → IsTalking held.source (Some own) (devices_of r) → own.frame ≡ held.sent → StoodSo held
     → Round view r None held answer s → Relayed r held own answer s

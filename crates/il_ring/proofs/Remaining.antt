@@ -14,12 +14,12 @@ use Rattle.il_guest.specs.declared.control.Command.TheVariants as command
 use Rattle.il_guest.specs.Rounds.{addresses_from}
 use Rattle.il_guest.specs.Steps.{asking, passed_over}
 use Rattle.il_guest.proofs.RoundLaws.{asking-past, asking-within, next-not-own}
-use Rattle.il_ring.specs.Lends.{are_told_by, is_one_status}
+use Rattle.il_ring.specs.Lends.{are_reported_by, is_one_status}
 use Rattle.il_ring.specs.Remaining.{AreRounds, BeginRounds, IsRound, asked_yet, from_byte, from_command, from_ready, from_start, from_unt}
 
 -- ---- which address is asked next
 
--- the command that comes next, where these addresses are asked yet
+-- the command that comes next, if these addresses are asked yet
 abbrev pub next_command : List ℕ → Command
 next_command [] = command.Nop
 next_command (b ∷ more) = command.Unl b
@@ -29,12 +29,12 @@ abbrev pub after_next : List ℕ → List ℕ
 after_next [] = []
 after_next (b ∷ more) = more
 
--- those that are asked yet in the round of the next command: that one's and the others, or all where a round begins
+-- those that are asked yet in the round of the next command: that one's and the others, or all if a round begins
 abbrev pub yet_asked : List ℕ → List ℕ → List ℕ
 yet_asked addresses [] = addresses
 yet_asked addresses (b ∷ more) = b ∷ more
 
--- so many addresses from a on
+-- this many addresses from a on
 next_from : (own : Option ℕ) (last a m : ℕ) → a + m ≡ suc last → (asking last (passed_over own a) ≡ next_command (addresses_from own a m)) × ((b : ℕ) → (more : List ℕ) → addresses_from own a m ≡ b ∷ more → Follow own last b more)
 next_from own last a m all = by (is_own own a) refl m all
   where
@@ -84,7 +84,7 @@ next_first own last = next_from own last 1 last (omega arith)
 
 -- ---- entry by entry
 
--- where no answer is given yet
+-- if no answer is given yet
 pub none_told : (k : ℕ) (xs : List ℕ) → IsRound k xs []
 none_told k [] = (refl, refl)
 none_told k (x ∷ xs) = (refl, refl)
@@ -94,7 +94,7 @@ module _ (k : ℕ) (addresses : List ℕ) where
   pub begin_rounds : BeginRounds k addresses [] addresses (from_command k addresses [] command.Nop)
   begin_rounds now later round rounds = (
     now ∷ later,
-    (and_from (list_all (is_one_status k) now) (list_all (λ round. list_all (is_one_status k) round) later) round.0 rounds.0, and_from (are_told_by addresses now) (list_all (are_told_by addresses) later) round.1 rounds.1),
+    (and_from (list_all (is_one_status k) now) (list_all (λ round. list_all (is_one_status k) round) later) round.0 rounds.0, and_from (are_reported_by addresses now) (list_all (are_reported_by addresses) later) round.1 rounds.1),
     refl,
   )
 
@@ -112,10 +112,10 @@ module _ (k : ℕ) (addresses : List ℕ) where
       → BeginRounds k addresses entries yet goes → BeginRounds k addresses (entries ++ e ∷ []) yet on
   begin_same entries yet goes on e same = begin_more entries yet yet goes on e (λ now later round rounds. (now, later, round, rounds, same now later))
 
-  -- what comes next, where these addresses are asked yet
+  -- what comes next, if these addresses are asked yet
   asked_next : (more : List ℕ) (now : List Answer) (later : List (List Answer)) → IsRound k (yet_asked addresses more) now → AreRounds k addresses later
       → (before : List Answer) × (then_ : List (List Answer)) × IsRound k more before × AreRounds k addresses then_ × (asked_yet k addresses more before then_ ≡ from_command k addresses (after_next more) (next_command more) now later)
-  asked_next [] now later round rounds = ([], now ∷ later, (refl, refl), (and_from (list_all (is_one_status k) now) (list_all (λ round. list_all (is_one_status k) round) later) round.0 rounds.0, and_from (are_told_by addresses now) (list_all (are_told_by addresses) later) round.1 rounds.1), refl)
+  asked_next [] now later round rounds = ([], now ∷ later, (refl, refl), (and_from (list_all (is_one_status k) now) (list_all (λ round. list_all (is_one_status k) round) later) round.0 rounds.0, and_from (are_reported_by addresses now) (list_all (are_reported_by addresses) later) round.1 rounds.1), refl)
   asked_next (b ∷ more) [] later round rounds = ([], later, (refl, refl), rounds, whole (entries_of k (Receive b None Sst NotTaken)) refl)
     where
       whole : (x : List Entry) → x ≡ entries_of k (Receive b None Sst NotTaken) → x ++ asked_yet k addresses more [] later ≡ from_command k addresses more (command.Unl b) [] later
@@ -142,10 +142,10 @@ module _ (k : ℕ) (addresses : List ℕ) where
   -- SST comes back
   pub start_back : (a : ℕ) (more : List ℕ) (entries : List Entry) → BeginRounds k addresses entries (a ∷ more) (from_start k addresses more) → BeginRounds k addresses (entries ++ returned k (start_frame Sst) ∷ []) more (from_unt k addresses more)
   start_back a more entries = begin_more entries (a ∷ more) more (from_start k addresses more) (from_unt k addresses more) (returned k (start_frame Sst))
-      (λ now later round rounds. (NotTaken ∷ now, later, (and_from true (list_all (is_one_status k) now) refl round.0, and_from true (are_told_by more now) refl round.1), rounds, refl))
+      (λ now later round rounds. (NotTaken ∷ now, later, (and_from true (list_all (is_one_status k) now) refl round.0, and_from true (are_reported_by more now) refl round.1), rounds, refl))
 
   -- party q takes it, which is that of the address
   pub start_taken : (a : ℕ) (more : List ℕ) (entries : List Entry) (q : ℕ) (d : Echo) → is_one_status k (Stopped q [] d) ≡ true → (q == a) ≡ true → BeginRounds k addresses entries (a ∷ more) (from_start k addresses more)
       → BeginRounds k addresses (entries ++ entry k (start_frame Sst) (outcome.Taken q) ∷ []) more (λ now later. returned k nrd ∷ from_byte k addresses more q d now later)
   start_taken a more entries q d one at = begin_more entries (a ∷ more) more (from_start k addresses more) (λ now later. returned k nrd ∷ from_byte k addresses more q d now later) (entry k (start_frame Sst) (outcome.Taken q))
-      (λ now later round rounds. (Stopped q [] d ∷ now, later, (and_from (is_one_status k (Stopped q [] d)) (list_all (is_one_status k) now) one round.0, and_from (q == a) (are_told_by more now) at round.1), rounds, refl))
+      (λ now later round rounds. (Stopped q [] d ∷ now, later, (and_from (is_one_status k (Stopped q [] d)) (list_all (is_one_status k) now) one round.0, and_from (q == a) (are_reported_by more now) at round.1), rounds, refl))

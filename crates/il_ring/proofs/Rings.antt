@@ -1,28 +1,24 @@
 -- What holds of a ring at every moment.
-use Rattle.std.proofs.Common.{◌≡◌, ◌≢◌, ◌≤◌, ◌+◌, ◌==◌, ◌⊎◌, inl, inr, ℕ, suc, Bool, true, false, List, [], ◌∷◌, ◌++◌, Option, Some, None, length, refl, sym, ap, subst, ◌∙◌, arith, length-append}
+use Rattle.std.proofs.Common.{◌≡◌, ◌≢◌, ◌≤◌, ◌+◌, ◌==◌, ◌⊎◌, inl, inr, ℕ, suc, Bool, true, false, List, [], ◌∷◌, Option, Some, None, length, refl, sym, ap, subst, ◌∙◌, arith}
 use Rattle.std.proofs.lemmas.Bool.{eq-eqb}
 use Rattle.il_frames.specs.declared.frame.Frame.{Frame}
-use Rattle.il_frames.specs.declared.entry.Entry.{Entry}
 use Rattle.il_frames.specs.Frames.{is_data}
 use Rattle.il_device.specs.State.{DeviceState, risen}
-use Rattle.il_device.specs.Takes.{Takes}
-use Rattle.il_device.specs.declared.device.Out.{Out}
-use Rattle.il_device.specs.declared.device.Out.TheVariants.{Pass, Source}
 use Rattle.il_ports.specs.Media.{MediumView}
-use Rattle.il_drive.specs.State.{DriveView, IsDrive, device_of}
+use Rattle.il_drive.specs.State.{DriveView, IsDrive}
 use Rattle.il_ring.specs.declared.plan.Planned.{Planned}
 use Rattle.il_ring.specs.declared.plan.Arrival.{Arrival}
 use Rattle.il_ring.specs.declared.flight.Flight.{Flight}
 use Rattle.il_ring.specs.Plans.{next_fault, last_crossing, IsPlan}
-use Rattle.il_ring.specs.Flights.{sourced, hit, lost_at, ended_at}
+use Rattle.il_ring.specs.Flights.{sourced, hit}
 use Rattle.il_ring.specs.Books.{BooksView, IsHeld}
 use Rattle.il_ring.specs.Fates.{GoesByPlan, HoldsByPlan, ShowsPlan}
-use Rattle.il_ring.specs.Journeys.{Trip, trip_of, answered, Passage, Journey, DriveTakes}
+use Rattle.il_ring.specs.Journeys.{Trip, trip_of, Passage, Journey, DriveTakes}
 use Rattle.il_ring.specs.Rings.{RingView, IsRing, Round, devices_of, books_at, ring_emptied, comes, home, over_last_link}
 use Rattle.il_ring.proofs.Faults.{risen_within}
-use Rattle.il_ring.proofs.Fates.{passes_so, sourced_way, told_cleared, journey_so, passage_so, home_told, starts_so}
+use Rattle.il_ring.proofs.Fates.{TellsTrip, sourced_way, told_cleared, journey_so, home_told, starts_so}
 use Rattle.il_ring.proofs.RoundCounts.{round_journey}
-use Rattle.il_ring.proofs.Journeys.{past_devices, past_party}
+use Rattle.il_ring.proofs.Journeys.{past_party}
 
 -- ---- as many devices
 
@@ -37,24 +33,10 @@ module _ {M : Type 0} (view : M → MediumView) (r s : RingView M) (held : Optio
   before-length = Journey-length r.books.plan 1 (trip_of r.books (Some f)) round.at_drive r.before s.before round.to_drive
 
   pub after-length : length s.after ≡ length r.after
-  after-length = Journey-length r.books.plan (length r.before + 2) round.past_drive round.behind r.after s.after round.from_drive
+  after-length = Journey-length r.books.plan (length r.before + 2) round.past_drive round.past_all r.after s.after round.from_drive
 
   pub devices-length : length (devices_of s) ≡ length (devices_of r)
-  devices-length = Journey-length r.books.plan 1 (trip_of r.books (Some f)) round.behind (devices_of r) (devices_of s) (round_journey view r s held f answer round)
-
--- ---- crossings stay below their greatest count
-
-answered-crossings : (n k : ℕ) (log : List Entry) (f : Flight) (out : Out) → (answered n log k f out).crossings ≡ n
-answered-crossings n k log f (Pass g) = refl
-answered-crossings n k log f (Source g) = refl
-
-pub Passage-crossings : {D : Type 0} (takes : D → Frame → Out → D → Type 0) (plan : List Planned) (k : ℕ) (t u : Trip) (d e : D) → t.crossings ≤ last_crossing → Passage takes plan k t d u e → u.crossings ≤ last_crossing
-Passage-crossings takes plan k t u d e within passage = past_party takes plan k t d (λ u e. u.crossings ≤ last_crossing) (λ is. within) (λ f is gone. risen_within t.crossings)
-    (λ f g out e is came took. let at = answered-crossings (risen t.crossings) k t.log g out in let low = risen_within t.crossings in omega (arith, at, low)) u e passage
-
-pub Journey-crossings : (plan : List Planned) (k : ℕ) (t u : Trip) (ds es : List DeviceState) → t.crossings ≤ last_crossing → Journey plan k t ds u es → u.crossings ≤ last_crossing
-Journey-crossings plan k t u ds es within journey =
-    (past_devices plan 0 (λ k t. t.crossings ≤ last_crossing) (λ d e. Unit {0}) (λ k t u d e some within passage. (Passage-crossings Takes plan k t u d e within passage, tt)) k t u ds es (omega arith) within journey).0
+  devices-length = Journey-length r.books.plan 1 (trip_of r.books (Some f)) round.past_all (devices_of r) (devices_of s) (round_journey view r s held f answer round)
 
 -- ---- the books at home
 
@@ -79,38 +61,34 @@ home-books : (b : BooksView) (flight : Option Flight) → AreBooks b → AreBook
 home-books b None are = record { crossings = are.crossings; held = tt }
 home-books b (Some f) are = over-books (record b { crossings = risen b.crossings }) f (hit (next_fault b.plan b.crossings) f) (record { crossings = risen_within b.crossings; held = are.held })
 
--- ---- plan, room and where the log begins stay, and the log grows by one entry a party at most
+-- ---- plan, room and where the log begins stay
 
--- the books at home: plan, room and where the log begins are as before, and there is one entry more at most
+-- the books at home: plan, room, where the log begins, and what is lent or kept are as before
 record KeepsPlace (b c : BooksView) : Type 0 where
   plan : c.plan ≡ b.plan
   room : c.room ≡ b.room
   begun : c.begun ≡ b.begun
   lent : c.lent ≡ b.lent
   kept : c.kept ≡ b.kept
-  grows : length c.log ≤ length b.log + 1
-
-one_entry : (log : List Entry) (e : Entry) → length (log ++ e ∷ []) ≤ length log + 1
-one_entry log e = let len = length-append log (e ∷ []) in omega (arith, len)
 
 comes-place : (b : BooksView) (f : Flight) (own data_frame : Bool) → KeepsPlace b (comes b f own data_frame)
-comes-place b f true data_frame = record { plan = refl; room = refl; begun = refl; lent = refl; kept = refl; grows = one_entry b.log (ended_at f 0) }
-comes-place b f false true = record { plan = refl; room = refl; begun = refl; lent = refl; kept = refl; grows = omega arith }
-comes-place b f false false = record { plan = refl; room = refl; begun = refl; lent = refl; kept = refl; grows = one_entry b.log (ended_at f 0) }
+comes-place b f true data_frame = record { plan = refl; room = refl; begun = refl; lent = refl; kept = refl }
+comes-place b f false true = record { plan = refl; room = refl; begun = refl; lent = refl; kept = refl }
+comes-place b f false false = record { plan = refl; room = refl; begun = refl; lent = refl; kept = refl }
 
 over-place : (b : BooksView) (f : Flight) (o : Option Flight) → KeepsPlace b (over_last_link b f o)
-over-place b f None = record { plan = refl; room = refl; begun = refl; lent = refl; kept = refl; grows = one_entry b.log (lost_at f 0) }
+over-place b f None = record { plan = refl; room = refl; begun = refl; lent = refl; kept = refl }
 over-place b f (Some g) = comes-place b g (g.source == 0) (is_data g.now)
 
 home-place : (b : BooksView) (flight : Option Flight) → KeepsPlace b (home b flight)
-home-place b None = record { plan = refl; room = refl; begun = refl; lent = refl; kept = refl; grows = omega arith }
+home-place b None = record { plan = refl; room = refl; begun = refl; lent = refl; kept = refl }
 home-place b (Some f) =
     let over = over-place (record b { crossings = risen b.crossings }) f (hit (next_fault b.plan b.crossings) f) in
-    record { plan = over.plan; room = over.room; begun = over.begun; lent = over.lent; kept = over.kept; grows = over.grows }
+    record { plan = over.plan; room = over.room; begun = over.begun; lent = over.lent; kept = over.kept }
 
 module _ {M : Type 0} (view : M → MediumView) (r s : RingView M) (held : Option Flight) (f : Flight) (answer : Arrival) (round : Round view r held f answer s) where
-  at_home : KeepsPlace (books_at (record r.books { held = held }) round.behind) s.books
-  at_home = subst (KeepsPlace (books_at (record r.books { held = held }) round.behind)) (sym round.books) (home-place (books_at (record r.books { held = held }) round.behind) round.behind.flight)
+  at_home : KeepsPlace (books_at (record r.books { held = held }) round.past_all) s.books
+  at_home = subst (KeepsPlace (books_at (record r.books { held = held }) round.past_all)) (sym round.books) (home-place (books_at (record r.books { held = held }) round.past_all) round.past_all.flight)
 
   pub round-plan : s.books.plan ≡ r.books.plan
   round-plan = at_home.plan
@@ -121,12 +99,6 @@ module _ {M : Type 0} (view : M → MediumView) (r s : RingView M) (held : Optio
   pub round-begun : s.books.begun ≡ r.books.begun
   round-begun = at_home.begun
 
-  round-lent : s.books.lent ≡ r.books.lent
-  round-lent = at_home.lent
-
-  round-kept : s.books.kept ≡ r.books.kept
-  round-kept = at_home.kept
-
 -- ---- the drive keeps its law
 
 pub Passage-drive : {M : Type 0} (view : M → MediumView) (plan : List Planned) (k : ℕ) (t u : Trip) (d e : DriveView M) → (n : ℕ) × IsDrive n d.state → Passage (DriveTakes view) plan k t d u e → (n : ℕ) × IsDrive n e.state
@@ -135,35 +107,29 @@ Passage-drive view plan k t u d e is passage =
 
 -- ---- what keeps it
 
--- the log tells the faults of the round as they were planned
-round-told : {M : Type 0} (view : M → MediumView) (r s : RingView M) (held : Option Flight) (f : Flight) (answer : Arrival) → Round view r held f answer s → IsRing r
-    → HoldsByPlan r.books.plan r.books.begun r.books.crossings held → GoesByPlan r.books.plan r.books.begun r.books.crossings f → ShowsPlan s.books
-round-told view r s held f answer round is ways way =
-    let b = record r.books { held = held } in
-    let to_drive = journey_so b 1 (trip_of r.books (Some f)) round.at_drive r.before s.before (starts_so r.books held f is.crossings ways way is.told) round.to_drive in
-    let past = passage_so b (DriveTakes view) (λ d e f h (takes : DriveTakes view d f (Pass h) e). passes_so (device_of d.state) (device_of e.state) f h takes.takes) (length r.before + 1) round.at_drive round.past_drive r.drive s.drive to_drive round.at in
-    let home = journey_so b (length r.before + 2) round.past_drive round.behind r.after s.after past round.from_drive in
-    subst ShowsPlan (sym round.books) (home_told b round.behind home)
+-- the trip of a round shows the faults as they were planned
+round-tells : {M : Type 0} (view : M → MediumView) (r s : RingView M) (held : Option Flight) (f : Flight) (answer : Arrival) (round : Round view r held f answer s) → IsRing r
+    → HoldsByPlan r.books.plan r.books.begun r.books.crossings held → GoesByPlan r.books.plan r.books.begun r.books.crossings f → TellsTrip (record r.books { held = held }) round.past_all
+round-tells view r s held f answer round is ways way =
+    journey_so (record r.books { held = held }) 1 (trip_of r.books (Some f)) round.past_all (devices_of r) (devices_of s) (starts_so r.books held f is.crossings ways way is.told) (round_journey view r s held f answer round)
 
--- a round does, of a frame that is under way as planned, with one held meanwhile that stands so
+-- a round does, of a frame that is under way as planned, with one held meanwhile that is as planned too
 pub IsRing-round : {M : Type 0} (view : M → MediumView) (r s : RingView M) (held : Option Flight) (f : Flight) (answer : Arrival) → Round view r held f answer s → IsRing r → IsHeld held
     → HoldsByPlan r.books.plan r.books.begun r.books.crossings held → GoesByPlan r.books.plan r.books.begun r.books.crossings f → IsRing s
 IsRing-round view r s held f answer round is is_held ways way =
-    let at_drive = Journey-crossings r.books.plan 1 (trip_of r.books (Some f)) round.at_drive r.before s.before is.crossings round.to_drive in
-    let past_drive = Passage-crossings (DriveTakes view) r.books.plan (length r.before + 1) round.at_drive round.past_drive r.drive s.drive at_drive round.at in
-    let behind = Journey-crossings r.books.plan (length r.before + 2) round.past_drive round.behind r.after s.after past_drive round.from_drive in
+    let tells = round-tells view r s held f answer round is ways way in
     let before = before-length view r s held f answer round in
     let after = after-length view r s held f answer round in
-    let books = subst AreBooks (sym round.books) (home-books (books_at (record r.books { held = held }) round.behind) round.behind.flight (record { crossings = behind; held = is_held })) in
+    let books = subst AreBooks (sym round.books) (home-books (books_at (record r.books { held = held }) round.past_all) round.past_all.flight (record { crossings = tells.within; held = is_held })) in
     record {
       few = omega (arith, is.few, before, after);
       plan = subst IsPlan (sym (round-plan view r s held f answer round)) is.plan;
       crossings = books.crossings;
       held = books.held;
       drive = Passage-drive view r.books.plan (length r.before + 1) round.at_drive round.past_drive r.drive s.drive is.drive round.at;
-      lent = round-lent view r s held f answer round ∙ is.lent;
-      kept = round-kept view r s held f answer round ∙ is.kept;
-      told = round-told view r s held f answer round is ways way;
+      lent = (at_home view r s held f answer round).lent ∙ is.lent;
+      kept = (at_home view r s held f answer round).kept ∙ is.kept;
+      told = subst ShowsPlan (sym round.books) (home_told (record r.books { held = held }) round.past_all tells);
     }
 
 -- of a frame of the host, with none held meanwhile, or the one that is

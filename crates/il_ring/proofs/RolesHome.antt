@@ -1,4 +1,4 @@
--- The devices' roles behind a whole round are those that its entries give.
+-- The devices' roles after a whole round are those that its entries give.
 use Rattle.std.proofs.Common.{◌≡◌, ◌≤◌, ◌++◌, ◌==◌, ⊎_elim, ℕ, Bool, true, false, not, List, [], ◌∷◌, Option, Some, None, refl, sym, ap, ap₂, ◌∙◌, arith, append-nil, append_assoc}
 use Rattle.std.specs.Prelude.{if◌then◌else◌}
 use Rattle.std.specs.List.{list_all}
@@ -48,7 +48,7 @@ others_leave rs (e ∷ log) others =
 
 -- ---- the way home
 
--- what the last link adds where a device's frame is on its way, or none
+-- what the last link adds if a device's frame is on its way, or none
 record OthersHome (log : List Entry) (s : BooksView) : Type 0 where
   entries : List Entry
   log_is : s.log ≡ log ++ entries
@@ -70,7 +70,7 @@ others_home : (b : BooksView) (flight : Option Flight) → AreQuiet flight → O
 others_home b None quiet = record { entries = []; log_is = sym (append-nil b.log); others = refl }
 others_home b (Some f) quiet = link_other (record b { crossings = risen b.crossings }) f (hit (next_fault b.plan b.crossings) f) (next_fault b.plan b.crossings) quiet refl
 
--- and where the host's own is
+-- and if the host's own is
 record HostHome (f : Flight) (log : List Entry) (s : BooksView) : Type 0 where
   ended : Outcome
   log_is : s.log ≡ log ++ entry 0 f.sent ended ∷ []
@@ -102,7 +102,7 @@ along_entry f o m rs rest says others = ap (λ m. roles_along 0 o 1 m rs) (sym s
 pub host_round : {M : Type 0} (view : M → MediumView) (r s : RingView M) (held : Option Flight) (f : Flight) (m : Message) (answer : Arrival) → f.source ≡ 0 → message_of f.sent ≡ m → Carries m f.now
     → Round view r held f answer s → HostRound r f s
 host_round view r s held f m answer host says carries round =
-    let t = round.behind in
+    let t = round.past_all in
     let b = books_at (record r.books { held = held }) t in
     ⊎_elim
     (λ on.
@@ -132,7 +132,7 @@ host_round view r s held f m answer host says carries round =
 
 pub device_round : {M : Type 0} (view : M → MediumView) (r s : RingView M) (held : Option Flight) (f : Flight) (answer : Arrival) → IsQuiet f → Round view r held f answer s → DeviceRound r s
 device_round view r s held f answer quiet round =
-    let t = round.behind in
+    let t = round.past_all in
     let past = leaves_roles r.books.plan 1 (trip_of r.books (Some f)) t (devices_of r) (devices_of s) (omega arith) quiet (round_journey view r s held f answer round) in
     let more = others_home (books_at (record r.books { held = held }) t) t.flight past.quiet in
     record {

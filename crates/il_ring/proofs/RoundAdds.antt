@@ -21,9 +21,11 @@ use Rattle.il_ring.specs.Rounded.{Rounded, IsReady, AllTook, device_sending, hol
 use Rattle.il_ring.specs.Outcomes.{met_between, DriveHad, DriveDid, DriveTook}
 use Rattle.il_ring.specs.Adds.{Adds}
 use Rattle.std.specs.List.{list_all}
-use Rattle.il_ring.specs.Polls.{is_no_poll}
+use Rattle.il_ring.specs.Polls.{is_no_poll, is_poll}
 use Rattle.il_ring.proofs.Passing.{Carries}
-use Rattle.il_ring.proofs.RoundPlaces.{IsUnpolled, first_no_poll, quiet_unpolled, round_places}
+use Rattle.il_ring.proofs.ControlledKeeps.{poll_never, round_places}
+use Rattle.il_ring.proofs.Handing.{carried_lacks}
+use Rattle.il_ring.proofs.RoundPlaces.{first_no_poll}
 use Rattle.il_ring.proofs.RoundRoles.{IsQuiet}
 use Rattle.il_device.specs.State.{DeviceState}
 use Rattle.il_ring.proofs.RoundCounts.{round_counts}
@@ -43,7 +45,7 @@ drive_ran : {M : Type 0} (view : M → MediumView) (P : Frame → Type 0) (r s :
 drive_ran view P r s (inl stays) = record { came = []; answers = []; ran = stays.0 }
 drive_ran view P r s (inr took) = record { came = took.0 ∷ []; answers = took.2.0 ∷ []; ran = (s.drive, took.2.1.did, refl) }
 
--- these frames came to it: one such, or none, since a planned hop was met
+-- these frames came to it: one such, or none, since a planned hop was reached
 abbrev pub DriveCame : {M : Type 0} → (Frame → Type 0) → RingView M → RingView M → List Frame → Type 0
 DriveCame P r s frames = ((frames ≡ []) × (met_between r s ≢ [])) ⊎ ((g : Frame) × P g × (frames ≡ g ∷ []))
 
@@ -56,7 +58,7 @@ ready_within f ds (inr awaited) = let there = awaited.there in let within = awai
 
 -- whose entries these are, and which frame it leaves held
 pub round_adds : {M : Type 0} (view : M → MediumView) (P : Frame → Type 0) (r s : RingView M) (held : Option Flight) (f : Flight) (answer : Arrival) (entries : List Entry) (to : Option ℕ) → Round view r held f answer s → (counts : Rounded r held f answer s) → f.source ≤ length (devices_of r)
-    → s.books.log ≡ r.books.log ++ entries → holding counts.new ≡ to → roles_of (devices_of s) ≡ roles_after (roles_of (devices_of r)) entries → (list_all is_no_poll entries ≡ true → IsUnpolled f) → DriveTook view P r s → Adds view r (device_sending f) entries to s
+    → s.books.log ≡ r.books.log ++ entries → holding counts.new ≡ to → roles_of (devices_of s) ≡ roles_after (roles_of (devices_of r)) entries → (list_all is_no_poll entries ≡ true → is_poll (message_of f.now) ≡ false) → DriveTook view P r s → Adds view r (device_sending f) entries to s
 round_adds view P r s held f answer entries to round counts within log new roles unpolled took =
     let k = length (devices_of r) in
     let same : counts.entries ≡ entries = append_cancel_left r.books.log counts.entries entries (sym counts.log ∙ log) in
@@ -90,7 +92,7 @@ host_adds view P r s held f answer entries to carries round log new took =
     let hosted = host_round view r s held (sourced 0 f) (message_of f) answer refl refl carries round in
     let same : entry 0 f hosted.ended ∷ hosted.rest ≡ entries = append_cancel_left r.books.log (entry 0 f hosted.ended ∷ hosted.rest) entries (sym hosted.log ∙ log) in
     round_adds view P r s held (sourced 0 f) answer entries to round (round_counts view r s held (sourced 0 f) answer (inl refl) round) (omega arith) log new (hosted.roles ∙ ap (roles_after (roles_of (devices_of r))) same)
-    (λ none. record { message = message_of f; no_poll = first_no_poll (entry 0 f hosted.ended) hosted.rest (ap (list_all is_no_poll) same ∙ none); carries = carries }) took
+    (λ none. first_no_poll (entry 0 f hosted.ended) hosted.rest (ap (list_all is_no_poll) same ∙ none)) took
 
 -- the held frame of a device
 pub device_adds : {M : Type 0} (view : M → MediumView) (P : Frame → Type 0) (r s : RingView M) (held : Option Flight) (f : Flight) (answer : Arrival) (entries : List Entry) (to : Option ℕ) → IsQuiet f → (ready : IsReady f (devices_of r)) → (round : Round view r held f answer s)
@@ -99,7 +101,7 @@ device_adds view P r s held f answer entries to quiet ready round log new took =
     let past = device_round view r s held f answer quiet round in
     let same : past.entries ≡ entries = append_cancel_left r.books.log past.entries entries (sym past.log ∙ log) in
     round_adds view P r s held f answer entries to round (round_counts view r s held f answer ready round) (ready_within f (devices_of r) ready) log new
-    (past.roles ∙ sym (others_leave (roles_of (devices_of r)) past.entries past.others) ∙ ap (roles_after (roles_of (devices_of r))) same) (λ none. quiet_unpolled f quiet) took
+    (past.roles ∙ sym (others_leave (roles_of (devices_of r)) past.entries past.others) ∙ ap (roles_after (roles_of (devices_of r))) same) (λ none. carried_lacks is_poll poll_never quiet.message f.now quiet.carries quiet.no_poll) took
 
 -- ---- the frames that came to the drive
 
@@ -136,11 +138,11 @@ host_did view P r s held f answer entries to carries round log new did = (did.0,
 
 -- ---- which frame is held then
 
--- none, where none is
+-- none, if none is
 pub none_new : {M : Type 0} (r s : RingView M) (held : Option Flight) (f : Flight) (answer : Arrival) (counts : Rounded r held f answer s) → s.books.held ≡ None → holding counts.new ≡ None
 none_new r s held f answer counts none = ⊎_elim (λ is. ap holding (sym is ∙ none)) (λ is. ap holding is.0) counts.held_is
 
--- none, where no data frame arrives
+-- none, if no data frame arrives
 pub plain_new : {M : Type 0} (r s : RingView M) (held : Option Flight) (f : Flight) (g : Frame) (answer : Arrival) (counts : Rounded r held f answer s) → answer ≡ arrival.Frame g → is_data g ≡ false → holding counts.new ≡ None
 plain_new r s held f g answer counts arrives plain = by_new counts.new refl
   where
@@ -151,6 +153,6 @@ plain_new r s held f g answer counts arrives plain = by_new counts.new refl
         let same : g ≡ h.now = ap (λ answer. elim answer [ arrival.Frame f ↦ f | arrival.Lost ↦ g ]) (sym arrives ∙ told.0) in
         let clash = sym plain ∙ ap is_data same ∙ told.1 in cc
 
--- the one that is, where none was
+-- the one that is, if none was
 pub held_new : {M : Type 0} (r s : RingView M) (f g : Flight) (answer : Arrival) (counts : Rounded r None f answer s) → s.books.held ≡ Some g → holding counts.new ≡ Some g.source
 held_new r s f g answer counts held = ⊎_elim (λ is. ap holding (sym is ∙ held)) (λ is. let clash = sym held ∙ is.1 in cc) counts.held_is

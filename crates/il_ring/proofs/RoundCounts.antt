@@ -43,26 +43,26 @@ reached_drive view plan k t (Some f) d e u reached = met_drive view k t f (hit (
 
 -- from the drive on
 pub drive_journey : {M : Type 0} (view : M → MediumView) (r s : RingView M) (held : Option Flight) (f : Flight) (answer : Arrival) (round : Round view r held f answer s)
-    → Journey r.books.plan (length r.before + 1) round.at_drive (device_of r.drive.state ∷ r.after) round.behind (device_of s.drive.state ∷ s.after)
+    → Journey r.books.plan (length r.before + 1) round.at_drive (device_of r.drive.state ∷ r.after) round.past_all (device_of s.drive.state ∷ s.after)
 drive_journey view r s held f answer round =
     let at : Passage Takes r.books.plan (length r.before + 1) round.at_drive (device_of r.drive.state) round.past_drive (device_of s.drive.state) =
     reached_drive view r.books.plan (length r.before + 1) round.at_drive round.at_drive.flight r.drive s.drive round.past_drive round.at in
     let next : length r.before + 2 ≡ length r.before + 1 + 1 = omega arith in
-    (round.past_drive, at, subst (λ k. Journey r.books.plan k round.past_drive r.after round.behind s.after) next round.from_drive)
+    (round.past_drive, at, subst (λ k. Journey r.books.plan k round.past_drive r.after round.past_all s.after) next round.from_drive)
 
 pub round_journey : {M : Type 0} (view : M → MediumView) (r s : RingView M) (held : Option Flight) (f : Flight) (answer : Arrival) (round : Round view r held f answer s)
-    → Journey r.books.plan 1 (trip_of r.books (Some f)) (devices_of r) round.behind (devices_of s)
+    → Journey r.books.plan 1 (trip_of r.books (Some f)) (devices_of r) round.past_all (devices_of s)
 round_journey view r s held f answer round =
-    Journey-append r.books.plan 1 (length r.before + 1) (trip_of r.books (Some f)) round.at_drive round.behind r.before s.before (device_of r.drive.state ∷ r.after) (device_of s.drive.state ∷ s.after) (omega arith) round.to_drive
+    Journey-append r.books.plan 1 (length r.before + 1) (trip_of r.books (Some f)) round.at_drive round.past_all r.before s.before (device_of r.drive.state ∷ r.after) (device_of s.drive.state ∷ s.after) (omega arith) round.to_drive
     (drive_journey view r s held f answer round)
 
 -- ---- the way home
 
--- behind the last device every source lies behind
-behind_all : (k : ℕ) (f : Flight) → ComesFrom k k f [] → f.source ≤ k
-behind_all k f (inl low) = low
-behind_all k f (inr (inl awaited)) = absurd (omega (arith, awaited.within))
-behind_all k f (inr (inr beyond)) = beyond.1
+-- after the last device every source comes after
+after_all : (k : ℕ) (f : Flight) → ComesFrom k k f [] → f.source ≤ k
+after_all k f (inl low) = low
+after_all k f (inr (inl awaited)) = absurd (omega (arith, awaited.within))
+after_all k f (inr (inr beyond)) = beyond.1
 
 from_device : (f : Flight) → (f.source == 0) ≡ false → 1 ≤ f.source
 from_device f other = ⊎_elim (λ zero. let clash = sym other ∙ eq-eqb f.source 0 zero in cc) (λ some. some) (eq-zero-or-pos f.source)
@@ -70,7 +70,7 @@ from_device f other = ⊎_elim (λ zero. let clash = sym other ∙ eq-eqb f.sour
 some_is : (f g : Flight) → Some f ≡ Some g → f ≡ g
 some_is f g e = ap (λ o. elim o [ Some h ↦ h | None ↦ f ]) e
 
--- What the last link added: the entries, the links, and the frame that is held for it. Behind the last device the frame was
+-- What the last link added: the entries, the links, and the frame that is held for it. After the last device the frame was
 -- `flight`.
 record CameHome (k : ℕ) (log : List Entry) (n : ℕ) (held flight : Option Flight) (answer : Arrival) (s : BooksView) : Type 0 where
   entries : List Entry
@@ -171,7 +171,7 @@ home_is k held None b answer answered at held_is = record {
   linked = omega arith;
   passed = λ q some most. omega arith;
 }
-home_is k held (Some f) b answer answered at held_is = at_home k held (Some f) b (hit (next_fault b.plan b.crossings) f) f (next_fault b.plan b.crossings) answer answered refl (behind_all k f at) refl held_is
+home_is k held (Some f) b answer answered at held_is = at_home k held (Some f) b (hit (next_fault b.plan b.crossings) f) f (next_fault b.plan b.crossings) answer answered refl (after_all k f at) refl held_is
 
 -- ---- the whole round
 
@@ -202,12 +202,12 @@ took_from b a k sending entries held j (d ∷ ds) (e ∷ es) same framed = (
 took_from b a k sending entries held j [] (e ∷ es) same framed = absurd framed
 took_from b a k sending entries held j (d ∷ ds) [] same framed = absurd framed
 
--- Crossings, frames of devices and the held frame behind a round are those that its entries stand for.
+-- Crossings, frames of devices and the held frame after a round are those that its entries stand for.
 pub round_counts : {M : Type 0} (view : M → MediumView) (r s : RingView M) (held : Option Flight) (f : Flight) (answer : Arrival) → IsReady f (devices_of r) → Round view r held f answer s → Rounded r held f answer s
 round_counts view r s held f answer ready round =
     let k = length (devices_of r) in
     let sending = device_sending f in
-    let t = round.behind in
+    let t = round.past_all in
     let out = counted_journey r.books.plan k 0 (trip_of r.books (Some f)) t (devices_of r) (devices_of s) (omega arith) (start_stands k f (devices_of r) ready) (round_journey view r s held f answer round) in
     let c = out.0 in
     let all : 0 + length (devices_of r) ≡ k = omega arith in

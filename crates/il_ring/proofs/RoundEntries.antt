@@ -2,26 +2,21 @@
 use Rattle.std.proofs.Common.{◌≡◌, ◌≤◌, ◌+◌, ◌++◌, ◌⊎◌, ◌==◌, ◌&&◌, ◌||◌, inl, inr, ℕ, Bool, true, false, not, nat_le, List, [], ◌∷◌, Option, Some, None, length, refl, sym, ap, subst, ◌∙◌, arith, append-nil, append_assoc}
 use Rattle.std.specs.Prelude.{if◌then◌else◌}
 use Rattle.std.specs.List.{list_all}
-use Rattle.std.proofs.lemmas.Bool.{and_parts, and_from, le-leb, leb-true, ne_eqb, eq-eqb}
+use Rattle.std.proofs.lemmas.Bool.{and_parts, and_from, le-leb, leb-true, ne_eqb, eq-eqb, or_right}
 use Rattle.std.proofs.lemmas.Bool.Decides.{nat_tests}
 use Rattle.std.proofs.lemmas.List.{append_cancel_left}
 use Rattle.std.proofs.lemmas.List.Folds.{list_all-append}
-use Rattle.il_frames.specs.declared.frame.Class.{Class}
-use Rattle.il_frames.specs.declared.frame.Class.TheVariants as class
 use Rattle.il_frames.specs.declared.frame.Frame.{Frame}
 use Rattle.il_frames.specs.declared.entry.Entry.{Entry}
 use Rattle.il_frames.specs.declared.entry.Outcome.TheVariants as outcome
-use Rattle.il_frames.specs.Frames.{byte_of, class_of, framed, is_data, is_data_class}
-use Rattle.il_frames.specs.Messages.{message_of, message_at}
+use Rattle.il_frames.specs.Frames.{byte_of, class_of, is_data}
+use Rattle.il_frames.specs.Messages.{message_of}
 use Rattle.il_frames.specs.NamedFrames.{entry}
 use Rattle.il_device.specs.declared.device.Out.{Out}
 use Rattle.il_device.specs.declared.device.Out.TheVariants.{Pass, Source}
-use Rattle.il_device.specs.declared.interface.OwnFrame.{OwnFrame}
-use Rattle.il_device.specs.declared.interface.Turn.{Turn}
-use Rattle.il_device.specs.declared.interface.Turn.TheVariants as turn
 use Rattle.il_device.specs.declared.roles.Roles.{Roles}
 use Rattle.il_device.specs.State.{DeviceState, risen}
-use Rattle.il_device.specs.Takes.{Takes, Answers, AnswersEcho, GoesOn, eto, ete, turn_of}
+use Rattle.il_device.specs.Takes.{Takes}
 use Rattle.il_ports.specs.Media.{MediumView}
 use Rattle.loop_model.specs.Roles.{is_spoken, roles_by}
 use Rattle.il_ring.specs.declared.plan.Planned.{Planned}
@@ -37,66 +32,34 @@ use Rattle.il_ring.proofs.CountSteps.{hit_same}
 use Rattle.il_ring.proofs.RoundCounts.{round_journey}
 use Rattle.il_ring.proofs.TurnedRoles.{on_back, on_taken, on_lost}
 use Rattle.il_ring.proofs.Journeys.{past_party}
+use Rattle.il_ring.proofs.MessageKinds.{data_spoken}
+use Rattle.il_ring.proofs.RoundRoles.{each_sent}
 
 -- what is true of the entries of a round that begins with the flight f, on a ring of n devices
 pub record TellsRound (n : ℕ) (f : Flight) (entries : List Entry) : Type 0 where
   -- they are entries of that ring
   pub on : list_all (is_on n) entries ≡ true
-  -- none of them gives an address, where the frame of f does not
+  -- none of them gives an address, if the frame of f does not
   pub addresses : is_auto_address (message_of f.sent) ≡ false → list_all gives_no_address entries ≡ true
   -- all but the host's own are spoken: data and end frames, ETO and ETE
   pub said : f.source ≡ 0 → list_all (λ e. is_spoken (message_of e.frame) || (e.source == 0)) entries ≡ true
-  -- all are, where the frame of f is
+  -- all are, if the frame of f is
   pub spoken : is_spoken (message_of f.sent) ≡ true → list_all (λ e. is_spoken (message_of e.frame)) entries ≡ true
-  -- a host that has roles takes the frame of f, where it is its own, and nothing else
+  -- a host that has roles takes the frame of f, if it is its own, and nothing else
   pub own_host : f.source ≡ 0 → (r : Roles) → own_roles r entries ≡ roles_by (message_of f.sent) r
   pub own_device : 1 ≤ f.source → (r : Roles) → own_roles r entries ≡ r
 
 -- ---- what a device sends
 
--- a data or end frame is spoken
-data_spoken : (k : Class) (byte : ℕ) → is_data_class k ≡ true → is_spoken (message_at k byte) ≡ true
-data_spoken class.Dab byte e = refl
-data_spoken class.Dsr byte e = refl
-data_spoken class.End byte e = refl
-data_spoken class.Esr byte e = refl
-data_spoken k byte e = cc
-
-sent_frame : (g h : Frame) → Source g ≡ Source h → g ≡ h
-sent_frame g h e = ap (λ out. elim out [ Pass f ↦ f | Source f ↦ f ]) e
-
-said_data : (h own : Frame) → Source h ≡ Source own → is_data own ≡ true → is_spoken (message_of h) ≡ true
-said_data h own is data_frame = data_spoken (class_of h) (byte_of h) (ap is_data (sent_frame h own is) ∙ data_frame)
-
-said_end : (h with_ : Frame) → Source h ≡ Source with_ → is_spoken (message_of with_) ≡ true → is_spoken (message_of h) ≡ true
-said_end h with_ is says = ap (λ f. is_spoken (message_of f)) (sent_frame h with_ is) ∙ says
-
-said_on_echo : (over : Bool) (h : Frame) (out : Out) (e : DeviceState) → GoesOn over out e → out ≡ Source h → is_spoken (message_of h) ≡ true
-said_on_echo true h out e ends is = said_end h eto (sym is ∙ ends.answer) refl
-said_on_echo false h out e (inl ends) is = said_end h eto (sym is ∙ ends.answer) refl
-said_on_echo false h out e (inr sends) is = said_data h sends.0.frame (sym is ∙ sends.1.answer) sends.1.is_data
-
-said_echo : (right : Bool) (h : Frame) (out : Out) (e : DeviceState) (own : OwnFrame) → AnswersEcho right own out e → out ≡ Source h → is_spoken (message_of h) ≡ true
-said_echo false h out e own ends is = said_end h ete (sym is ∙ ends.answer) refl
-said_echo true h out e own on is = said_on_echo _ h out e on is
-
-said_as : (asked : Turn) (d e : DeviceState) (f h : Frame) (out : Out) → Answers asked d f out e → out ≡ Source h → is_spoken (message_of h) ≡ true
-said_as turn.Pass d e f h out passes is = let clash = sym is ∙ passes.answer in cc
-said_as turn.Hear d e f h out passes is = let clash = sym is ∙ passes.answer in cc
-said_as turn.Begin d e f h out (inl passes) is = let clash = sym is ∙ passes.answer in cc
-said_as turn.Begin d e f h out (inr sends) is = said_data h sends.0.frame (sym is ∙ sends.1.answer) sends.1.is_data
-said_as (turn.Identify id) d e f h out sends is = said_data h (framed class.Dab id) (sym is ∙ sends.answer) refl
-said_as (turn.Compare own) d e f h out echo is = said_echo _ h out e own echo is
-
 -- a frame that a device sends in the place of another is spoken
 pub sent_spoken : (d e : DeviceState) (f h : Frame) → Takes d f (Source h) e → is_spoken (message_of h) ≡ true
-sent_spoken d e f h takes = said_as (turn_of d f) d e f h (Source h) takes.answer refl
+sent_spoken d e f h takes = each_sent (λ h. is_spoken (message_of h) ≡ true) (λ f is. data_spoken (class_of f) (byte_of f) is) refl refl h d e f takes
 
 -- ---- entries
 
 -- a spoken entry of a device of a ring of n devices
-abbrev is_told : ℕ → Entry → Bool
-is_told n e = is_on n e && (nat_le 1 e.source && is_spoken (message_of e.frame))
+abbrev is_reported : ℕ → Entry → Bool
+is_reported n e = is_on n e && (nat_le 1 e.source && is_spoken (message_of e.frame))
 
 -- an entry of the frame of f on such a ring
 record IsEntryOf (n : ℕ) (f : Flight) (e : Entry) : Type 0 where
@@ -110,13 +73,13 @@ record IsDevices (n : ℕ) (g : Flight) : Type 0 where
   within : g.source ≤ n
   says : is_spoken (message_of g.sent) ≡ true
 
--- the log is now this one, behind `log` with the entry of f and the devices' spoken ones
+-- the log is now this one, after `log` with the entry of f and the devices' spoken ones
 record Entered (n : ℕ) (f : Flight) (log now : List Entry) : Type 0 where
   first : Entry
   rest : List Entry
   log_is : now ≡ log ++ first ∷ rest
   of_f : IsEntryOf n f first
-  told : list_all (is_told n) rest ≡ true
+  told : list_all (is_reported n) rest ≡ true
 
 -- nothing was entered yet, and the frame of f is on its way
 record IsFirst (n : ℕ) (f : Flight) (log now : List Entry) (g : Flight) : Type 0 where
@@ -155,13 +118,13 @@ enters n f log now g e source sent on (inl first) = record {
 enters n f log now g e source sent on (inr later) =
     let from : nat_le 1 e.source ≡ true = le-leb 1 e.source (omega (arith, source, later.0.some)) in
     let says : is_spoken (message_of e.frame) ≡ true = ap (λ f. is_spoken (message_of f)) sent ∙ later.0.says in
-    let one : is_told n e ≡ true = and_from (is_on n e) _ on (and_from (nat_le 1 e.source) _ from says) in
+    let one : is_reported n e ≡ true = and_from (is_on n e) _ on (and_from (nat_le 1 e.source) _ from says) in
     record {
       first = later.1.first;
       rest = later.1.rest ++ e ∷ [];
       log_is = ap (λ log. log ++ e ∷ []) later.1.log_is ∙ append_assoc log (later.1.first ∷ later.1.rest) (e ∷ []);
       of_f = later.1.of_f;
-      told = list_all-append (is_told n) later.1.rest (e ∷ []) ∙ and_from (list_all (is_told n) later.1.rest) (list_all (is_told n) (e ∷ [])) later.1.told (and_from (is_told n e) true one refl);
+      told = list_all-append (is_reported n) later.1.rest (e ∷ []) ∙ and_from (list_all (is_reported n) later.1.rest) (list_all (is_reported n) (e ∷ [])) later.1.told (and_from (is_reported n e) true one refl);
     }
 
 -- a frame that ended at a party of the ring
@@ -234,10 +197,10 @@ home_tells n f log b (Some g) tells = link_home n f log b g (hit (next_fault b.p
 
 -- what is true of each is true of all
 told_all : (n : ℕ) (p : Entry → Bool) (es : List Entry) → ((e : Entry) → 1 ≤ e.source → is_on n e ≡ true → is_spoken (message_of e.frame) ≡ true → p e ≡ true)
-    → list_all (is_told n) es ≡ true → list_all p es ≡ true
+    → list_all (is_reported n) es ≡ true → list_all p es ≡ true
 told_all n p [] each told = refl
 told_all n p (e ∷ es) each told =
-    let parts = and_parts (is_told n e) (list_all (is_told n) es) told in
+    let parts = and_parts (is_reported n e) (list_all (is_reported n) es) told in
     let here = and_parts (is_on n e) (nat_le 1 e.source && is_spoken (message_of e.frame)) parts.0 in
     let more = and_parts (nat_le 1 e.source) (is_spoken (message_of e.frame)) here.1 in
     and_from (p e) (list_all p es) (each e (leb-true 1 e.source more.0) here.0 more.1) (told_all n p es each parts.1)
@@ -246,10 +209,10 @@ told_all n p (e ∷ es) each told =
 own_stays : (r : Roles) (e : Entry) → 1 ≤ e.source → own_roles_entry r e ≡ r
 own_stays r e from = ap (λ b. if b then roles_by (message_of e.frame) r else r) (ne_eqb e.source 0 (λ same. omega (arith, same, from)))
 
-told_own : (n : ℕ) (es : List Entry) (r : Roles) → list_all (is_told n) es ≡ true → own_roles r es ≡ r
+told_own : (n : ℕ) (es : List Entry) (r : Roles) → list_all (is_reported n) es ≡ true → own_roles r es ≡ r
 told_own n [] r told = refl
 told_own n (e ∷ es) r told =
-    let parts = and_parts (is_told n e) (list_all (is_told n) es) told in
+    let parts = and_parts (is_reported n e) (list_all (is_reported n) es) told in
     let here = and_parts (is_on n e) (nat_le 1 e.source && is_spoken (message_of e.frame)) parts.0 in
     let more = and_parts (nat_le 1 e.source) (is_spoken (message_of e.frame)) here.1 in
     ap (λ r. own_roles r es) (own_stays r e (leb-true 1 e.source more.0)) ∙ told_own n es r parts.1
@@ -261,12 +224,8 @@ no_aad : (b aad : Bool) → aad ≡ false → not (b && aad) ≡ true
 no_aad true aad none = ap not none
 no_aad false aad none = refl
 
-right_or : (a b : Bool) → b ≡ true → (a || b) ≡ true
-right_or true b is = refl
-right_or false b is = is
-
--- the entry of f, and the devices' spoken ones behind it
-first_and_rest : (n : ℕ) (f : Flight) (first : Entry) (rest : List Entry) → IsEntryOf n f first → list_all (is_told n) rest ≡ true → TellsRound n f (first ∷ rest)
+-- the entry of f, and the devices' spoken ones after it
+first_and_rest : (n : ℕ) (f : Flight) (first : Entry) (rest : List Entry) → IsEntryOf n f first → list_all (is_reported n) rest ≡ true → TellsRound n f (first ∷ rest)
 first_and_rest n f first rest of_f told =
     let says = ap (λ f. message_of f) of_f.frame in
     record {
@@ -276,7 +235,7 @@ first_and_rest n f first rest of_f told =
           (told_all n gives_no_address rest (λ e from on says. device_gives_none e from) told);
       said = λ host.
           and_from (is_spoken (message_of first.frame) || (first.source == 0)) (list_all (λ e. is_spoken (message_of e.frame) || (e.source == 0)) rest)
-          (right_or (is_spoken (message_of first.frame)) (first.source == 0) (eq-eqb first.source 0 (of_f.source ∙ host)))
+          (or_right (is_spoken (message_of first.frame)) (first.source == 0) (eq-eqb first.source 0 (of_f.source ∙ host)))
           (told_all n (λ e. is_spoken (message_of e.frame) || (e.source == 0)) rest (λ e from on says. ap (λ b. b || (e.source == 0)) says) told);
       spoken = λ is.
           and_from (is_spoken (message_of first.frame)) (list_all (λ e. is_spoken (message_of e.frame)) rest) (ap is_spoken says ∙ is)
@@ -306,14 +265,14 @@ tells_all n f log now entries is (inr entered) =
     let same : entered.first ∷ entered.rest ≡ entries = append_cancel_left log (entered.first ∷ entered.rest) entries (sym entered.log_is ∙ is) in
     subst (TellsRound n f) same (first_and_rest n f entered.first entered.rest entered.of_f entered.told)
 
--- The entries that a round appends: that of its first frame, unless this is a device's and is held at the host, and behind it spoken ones
+-- The entries that a round appends: that of its first frame, unless this is a device's and is held at the host, and after it spoken ones
 -- of the devices.
 pub round_tells : {M : Type 0} (view : M → MediumView) (r s : RingView M) (held : Option Flight) (f : Flight) (answer : Arrival) (round : Round view r held f answer s) (entries : List Entry)
     → f.source ≤ length (devices_of r) → s.books.log ≡ r.books.log ++ entries → TellsRound (length (devices_of r)) f entries
 round_tells view r s held f answer round entries within log =
     let n = length (devices_of r) in
     let start : Tells n f r.books.log r.books.log (Some f) = inl (record { source = refl; sent = refl; within = within; log_is = refl }) in
-    let behind : Tells n f r.books.log round.behind.log round.behind.flight =
-    journey_tells n f r.books.log r.books.plan 1 (trip_of r.books (Some f)) round.behind (devices_of r) (devices_of s) (omega arith) (omega arith) start (round_journey view r s held f answer round) in
-    let last = home_tells n f r.books.log (books_at (record r.books { held = held }) round.behind) round.behind.flight behind in
-    tells_all n f r.books.log (home (books_at (record r.books { held = held }) round.behind) round.behind.flight).log entries (sym (ap (λ (b : BooksView). b.log) round.books) ∙ log) last
+    let after : Tells n f r.books.log round.past_all.log round.past_all.flight =
+    journey_tells n f r.books.log r.books.plan 1 (trip_of r.books (Some f)) round.past_all (devices_of r) (devices_of s) (omega arith) (omega arith) start (round_journey view r s held f answer round) in
+    let last = home_tells n f r.books.log (books_at (record r.books { held = held }) round.past_all) round.past_all.flight after in
+    tells_all n f r.books.log (home (books_at (record r.books { held = held }) round.past_all) round.past_all.flight).log entries (sym (ap (λ (b : BooksView). b.log) round.books) ∙ log) last

@@ -11,7 +11,7 @@ use Rattle.il_frames.specs.declared.message.Message.{Message}
 use Rattle.il_frames.specs.declared.message.Message.TheVariants as msg
 use Rattle.il_frames.specs.declared.entry.Entry.{Entry}
 use Rattle.il_frames.specs.Frames.{byte_of, class_of, framed, is_data, is_data_class}
-use Rattle.il_frames.specs.Messages.{message_of, message_at}
+use Rattle.il_frames.specs.Messages.{message_at}
 use Rattle.il_device.specs.declared.device.Out.{Out}
 use Rattle.il_device.specs.declared.device.Out.TheVariants.{Pass, Source}
 use Rattle.il_device.specs.declared.interface.OwnFrame.{OwnFrame}
@@ -34,17 +34,14 @@ use Rattle.il_ring.specs.Rings.{roles_of}
 use Rattle.il_ring.specs.Polls.{is_poll}
 use Rattle.il_ring.specs.Outcomes.{is_other}
 use Rattle.il_ring.proofs.CountSteps.{hit_same}
+use Rattle.il_ring.proofs.MessageKinds.{never_data}
 use Rattle.il_ring.proofs.Passing.{Carries, Exactly, AsData, AsIdentify, keeps_on, kept_by, carries_on, carried_roles}
 use Rattle.il_ring.proofs.Journeys.{past_party}
 
 -- ---- what a link leaves of what a frame says
 
-data_not_exact : (k : Class) (byte : ℕ) → is_data_class k ≡ true → is_exact (message_at k byte) ≡ false
-data_not_exact class.Dab byte e = refl
-data_not_exact class.Dsr byte e = refl
-data_not_exact class.End byte e = refl
-data_not_exact class.Esr byte e = refl
-data_not_exact _ byte e = cc
+pub data_not_exact : (k : Class) (byte : ℕ) → is_data_class k ≡ true → is_exact (message_at k byte) ≡ false
+data_not_exact = never_data is_exact (λ n. refl) (λ n. refl) (λ n. refl) (λ n. refl)
 
 data_not_identify : (k : Class) → is_data_class k ≡ true → is_identify_class k ≡ true → ⊥
 data_not_identify class.Idy e f = cc
@@ -87,35 +84,36 @@ abbrev pub AreQuiet : Option Flight → Type 0
 AreQuiet None = Unit {0}
 AreQuiet (Some f) = IsQuiet f
 
-sent_frame : (g h : Frame) → Source g ≡ Source h → g ≡ h
-sent_frame g h e = ap (λ out. elim out [ Pass f ↦ f | Source f ↦ f ]) e
+-- What holds of each data or end frame, of ETO and of ETE holds of a frame that a device sends in the place of another.
+module _ (P : Frame → Type 0) (data_frames : (f : Frame) → is_data f ≡ true → P f) (at_eto : P eto) (at_ete : P ete) (h : Frame) where
+  sent_is : (own : Frame) → Source h ≡ Source own → P own → P h
+  sent_is own is so = subst P (ap (λ out. elim out [ Pass f ↦ f | Source f ↦ f ]) (sym is)) so
 
-sent_data : (party : ℕ) (h own : Frame) → 1 ≤ party → Source h ≡ Source own → is_data own ≡ true → IsQuiet (sourced party h)
-sent_data party h own some is data_frame = record { from_device = some; message = msg.Dab 0; keeps = refl; no_poll = refl; no_control = refl; carries = AsData refl (ap is_data (sent_frame h own is) ∙ data_frame) }
+  sent_on_echo : (over : Bool) (out : Out) (e : DeviceState) → GoesOn over out e → out ≡ Source h → P h
+  sent_on_echo true out e ends is = sent_is eto (sym is ∙ ends.answer) at_eto
+  sent_on_echo false out e (inl ends) is = sent_is eto (sym is ∙ ends.answer) at_eto
+  sent_on_echo false out e (inr sends) is = sent_is sends.0.frame (sym is ∙ sends.1.answer) (data_frames sends.0.frame sends.1.is_data)
 
-sent_end : (party : ℕ) (h with_ : Frame) (m : Message) → 1 ≤ party → Source h ≡ Source with_ → message_of with_ ≡ m → is_exact m ≡ true → changes_roles m ≡ false → is_poll m ≡ false → is_tct m ≡ false → IsQuiet (sourced party h)
-sent_end party h with_ m some is says exact keeps no_poll no_control = record { from_device = some; message = m; keeps = keeps; no_poll = no_poll; no_control = no_control; carries = Exactly exact (ap message_of (sent_frame h with_ is) ∙ says) }
+  sent_echo : (right : Bool) (out : Out) (e : DeviceState) (own : OwnFrame) → AnswersEcho right own out e → out ≡ Source h → P h
+  sent_echo false out e own ends is = sent_is ete (sym is ∙ ends.answer) at_ete
+  sent_echo true out e own on is = sent_on_echo _ out e on is
 
-sent_on_echo : (over : Bool) (party : ℕ) (h : Frame) (out : Out) (e : DeviceState) → 1 ≤ party → GoesOn over out e → out ≡ Source h → IsQuiet (sourced party h)
-sent_on_echo true party h out e some ends is = sent_end party h eto msg.Eto some (sym is ∙ ends.answer) refl refl refl refl refl
-sent_on_echo false party h out e some (inl ends) is = sent_end party h eto msg.Eto some (sym is ∙ ends.answer) refl refl refl refl refl
-sent_on_echo false party h out e some (inr sends) is = sent_data party h sends.0.frame some (sym is ∙ sends.1.answer) sends.1.is_data
+  sent_as : (asked : Turn) (d e : DeviceState) (f : Frame) (out : Out) → Answers asked d f out e → out ≡ Source h → P h
+  sent_as turn.Pass d e f out passes is = let clash = sym is ∙ passes.answer in cc
+  sent_as turn.Hear d e f out passes is = let clash = sym is ∙ passes.answer in cc
+  sent_as turn.Begin d e f out (inl passes) is = let clash = sym is ∙ passes.answer in cc
+  sent_as turn.Begin d e f out (inr sends) is = sent_is sends.0.frame (sym is ∙ sends.1.answer) (data_frames sends.0.frame sends.1.is_data)
+  sent_as (turn.Identify id) d e f out sends is = sent_is (framed class.Dab id) (sym is ∙ sends.answer) (data_frames (framed class.Dab id) refl)
+  sent_as (turn.Compare own) d e f out echo is = sent_echo _ out e own echo is
 
-sent_echo : (right : Bool) (party : ℕ) (h : Frame) (out : Out) (e : DeviceState) (own : OwnFrame) → 1 ≤ party → AnswersEcho right own out e → out ≡ Source h → IsQuiet (sourced party h)
-sent_echo false party h out e own some ends is = sent_end party h ete msg.Ete some (sym is ∙ ends.answer) refl refl refl refl refl
-sent_echo true party h out e own some on is = sent_on_echo _ party h out e some on is
+  pub each_sent : (d e : DeviceState) (f : Frame) → Takes d f (Source h) e → P h
+  each_sent d e f takes = sent_as (turn_of d f) d e f (Source h) takes.answer refl
 
-sent_as : (asked : Turn) (party : ℕ) (d e : DeviceState) (f h : Frame) (out : Out) → 1 ≤ party → Answers asked d f out e → out ≡ Source h → IsQuiet (sourced party h)
-sent_as turn.Pass party d e f h out some passes is = let clash = sym is ∙ passes.answer in cc
-sent_as turn.Hear party d e f h out some passes is = let clash = sym is ∙ passes.answer in cc
-sent_as turn.Begin party d e f h out some (inl passes) is = let clash = sym is ∙ passes.answer in cc
-sent_as turn.Begin party d e f h out some (inr sends) is = sent_data party h sends.0.frame some (sym is ∙ sends.1.answer) sends.1.is_data
-sent_as (turn.Identify id) party d e f h out some sends is = sent_data party h (framed class.Dab id) some (sym is ∙ sends.answer) refl
-sent_as (turn.Compare own) party d e f h out some echo is = sent_echo _ party h out e own some echo is
-
--- a frame that a device sends in the place of another is quiet
+-- such a frame is quiet
 pub sent_quiet : (party : ℕ) (d e : DeviceState) (f h : Frame) → 1 ≤ party → Takes d f (Source h) e → IsQuiet (sourced party h)
-sent_quiet party d e f h some takes = sent_as (turn_of d f) party d e f h (Source h) some takes.answer refl
+sent_quiet party d e f h some takes = each_sent (λ h. IsQuiet (sourced party h)) (λ f is. record { from_device = some; message = msg.Dab 0; keeps = refl; no_poll = refl; no_control = refl; carries = AsData refl is })
+    (record { from_device = some; message = msg.Eto; keeps = refl; no_poll = refl; no_control = refl; carries = Exactly refl refl })
+    (record { from_device = some; message = msg.Ete; keeps = refl; no_poll = refl; no_control = refl; carries = Exactly refl refl }) h d e f takes
 
 -- ---- journeys that leave the roles
 
@@ -187,7 +185,7 @@ quiet_past plan k t u d e some quiet passage =
     (λ f is gone. record { entries = lost_at f k ∷ []; log = refl; others = and_from (not (f.source == 0)) true (other_source f.source (its f is).from_device) refl; roles = refl; quiet = tt })
     (λ f g out e is came takes. quiet_answered k (risen t.crossings) t.log t g out d e some refl (quiet_hit (next_fault plan t.crossings) f g (its f is) came) takes) u e passage
 
--- behind a device that sent a frame, and where the frame was lost, the roles stay
+-- after a device that sent a frame, and if the frame was lost, the roles stay
 pub leaves_roles : (plan : List Planned) (k : ℕ) (t u : Trip) (ds es : List DeviceState) → 1 ≤ k → AreQuiet t.flight → Journey plan k t ds u es → LeavesRoles t ds u es
 leaves_roles plan k t u [] [] some quiet journey = subst (λ u. LeavesRoles t [] u []) (sym journey) (leaves_none t quiet)
 leaves_roles plan k t u (d ∷ ds) (e ∷ es) some quiet journey =

@@ -15,9 +15,9 @@ use Rattle.il_ring.specs.Flights.{sourced}
 use Rattle.il_ring.specs.Journeys.{trip_of}
 use Rattle.il_frames.specs.NamedFrames.{ifc}
 use Rattle.il_ring.specs.Guests.{IsUnderHost}
-use Rattle.il_ring.specs.Lending.{HostKeeps, LedRound, TakenBack, entry_where, leads, going_on, about_to_send, taken_back, taken_back_where}
+use Rattle.il_ring.specs.Lending.{HostKeeps, ControlledRound, TakesBack, entry_of_kept, leads, going_on, about_to_send, taken_back, taken_back_if}
 use Rattle.il_ring.specs.Rings.{RingView, IsRing, Round, devices_of, roles_of, spare_of}
-use Rattle.il_ring.proofs.LedRounds.{led_hands, led_kept, not_led, taken_round}
+use Rattle.il_ring.proofs.ControlledRounds.{controlled_hands, controlled_kept, not_controlled, taken_round}
 use Rattle.il_ring.proofs.Handing.{data_hands}
 use Rattle.il_ring.specs.Books.{IsHeld}
 use Rattle.il_ring.specs.Lists.{AllSilent, NoneSends}
@@ -36,28 +36,28 @@ use Rattle.il_ring.proofs.RoundCounts.{round_journey, round_counts}
 -- ---- by who controls
 
 -- under the host the round is one like every other
-pub sent_round : {M : Type 0} (view : M → MediumView) (r t s : RingView M) (f : Frame) (flight : Flight) (answer : Arrival) → LedRound view t flight answer s → t ≡ about_to_send r → flight ≡ sourced 0 f → HostKeeps r f → Round view r r.books.held (sourced 0 f) answer s
+pub sent_round : {M : Type 0} (view : M → MediumView) (r t s : RingView M) (f : Frame) (flight : Flight) (answer : Arrival) → ControlledRound view t flight answer s → t ≡ about_to_send r → flight ≡ sourced 0 f → HostKeeps r f → Round view r r.books.held (sourced 0 f) answer s
 sent_round view r t s f flight answer round at is keeps =
-    let same : about_to_send r ≡ r = ap (λ lead. taken_back_where lead r) (not_led r.guest keeps.host) in
-    subst (λ flight. Round view r r.books.held flight answer s) is (led_kept view r s flight answer (subst (λ t. LedRound view t flight answer s) (at ∙ same) round) f is keeps)
+    let same : about_to_send r ≡ r = ap (λ lead. taken_back_if lead r) (not_controlled r.guest keeps.host) in
+    subst (λ flight. Round view r r.books.held flight answer s) is (controlled_kept view r s flight answer (subst (λ t. ControlledRound view t flight answer s) (at ∙ same) round) f is keeps)
 
-pub handed_sent : {M : Type 0} (view : M → MediumView) (r t s : RingView M) (f : Frame) (flight : Flight) (answer : Arrival) → LedRound view t flight answer s → t ≡ about_to_send r → flight ≡ sourced 0 f → IsUnderHost r.guest → LedRound view r (sourced 0 f) answer s
+pub handed_sent : {M : Type 0} (view : M → MediumView) (r t s : RingView M) (f : Frame) (flight : Flight) (answer : Arrival) → ControlledRound view t flight answer s → t ≡ about_to_send r → flight ≡ sourced 0 f → IsUnderHost r.guest → ControlledRound view r (sourced 0 f) answer s
 handed_sent view r t s f flight answer round at is under =
-    let same : about_to_send r ≡ r = ap (λ lead. taken_back_where lead r) (not_led r.guest under) in
-    subst (λ flight. LedRound view r flight answer s) is (subst (λ t. LedRound view t flight answer s) (at ∙ same) round)
+    let same : about_to_send r ≡ r = ap (λ lead. taken_back_if lead r) (not_controlled r.guest under) in
+    subst (λ flight. ControlledRound view r flight answer s) is (subst (λ t. ControlledRound view t flight answer s) (at ∙ same) round)
 
 -- what the host sends while another controls
 pub ifc_alone : {M : Type 0} (r : RingView M) (f : Frame) → IsUnderHost r.guest ⊎ (f ≡ ifc) → leads r.guest ≡ true → f ≡ ifc
-ifc_alone r f (inl under) lead = let clash = sym lead ∙ not_led r.guest under in cc
+ifc_alone r f (inl under) lead = let clash = sym lead ∙ not_controlled r.guest under in cc
 ifc_alone r f (inr is) lead = is
 
-pub back_sent : {M : Type 0} (view : M → MediumView) (r t s : RingView M) (f : Frame) (flight : Flight) (answer : Arrival) → LedRound view t flight answer s → t ≡ about_to_send r → flight ≡ sourced 0 f → IsUnderHost r.guest ⊎ (f ≡ ifc) → leads r.guest ≡ true → TakenBack view r f answer s
+pub back_sent : {M : Type 0} (view : M → MediumView) (r t s : RingView M) (f : Frame) (flight : Flight) (answer : Arrival) → ControlledRound view t flight answer s → t ≡ about_to_send r → flight ≡ sourced 0 f → IsUnderHost r.guest ⊎ (f ≡ ifc) → leads r.guest ≡ true → TakesBack view r f answer s
 back_sent view r t s f flight answer round at is alone lead =
-    let back : about_to_send r ≡ taken_back r = ap (λ lead. taken_back_where lead r) lead in
-    taken_round view r s f flight answer is (ifc_alone r f alone lead) (subst (λ t. LedRound view t flight answer s) (at ∙ back) round)
+    let back : about_to_send r ≡ taken_back r = ap (λ lead. taken_back_if lead r) lead in
+    taken_round view r s f flight answer is (ifc_alone r f alone lead) (subst (λ t. ControlledRound view t flight answer s) (at ∙ back) round)
 
--- the room that is left behind a lending that ended
-one_at_most : (k : ℕ) (o : Option Flight) → length (entry_where k o) ≤ 1
+-- the room that is left after a lending that ended
+one_at_most : (k : ℕ) (o : Option Flight) → length (entry_of_kept k o) ≤ 1
 one_at_most k None = omega arith
 one_at_most k (Some f) = omega arith
 
@@ -65,25 +65,25 @@ pub room_sent : {M : Type 0} (r t : RingView M) (f : Frame) (flight : Flight) �
 room_sent r t f flight at is alone room = by_lead (leads r.guest) refl
   where
     by_lead : (lead : Bool) → leads r.guest ≡ lead → (32 ≤ spare_of t) ⊎ ((30 ≤ spare_of t) × (flight ≡ sourced 0 ifc))
-    by_lead false lead = inl (subst (λ t. 32 ≤ spare_of t) (sym (at ∙ ap (λ lead. taken_back_where lead r) lead)) room)
+    by_lead false lead = inl (subst (λ t. 32 ≤ spare_of t) (sym (at ∙ ap (λ lead. taken_back_if lead r) lead)) room)
     by_lead true lead =
         let k = length (devices_of r) in
         let ends = one_at_most k r.books.kept in
         let stands = one_at_most 0 r.books.lent in
-        let log = length-append r.books.log (entry_where k r.books.kept) in
-        let all = length-append (r.books.log ++ entry_where k r.books.kept) (entry_where 0 r.books.lent) in
+        let log = length-append r.books.log (entry_of_kept k r.books.kept) in
+        let all = length-append (r.books.log ++ entry_of_kept k r.books.kept) (entry_of_kept 0 r.books.lent) in
         let left : 30 ≤ spare_of (taken_back r) = omega (arith, ends, stands, log, all, room) in
-        inr (subst (λ t. 30 ≤ spare_of t) (sym (at ∙ ap (λ lead. taken_back_where lead r) lead)) left, is ∙ ap (sourced 0) (ifc_alone r f alone lead))
+        inr (subst (λ t. 30 ≤ spare_of t) (sym (at ∙ ap (λ lead. taken_back_if lead r) lead)) left, is ∙ ap (sourced 0) (ifc_alone r f alone lead))
 
 round_keeps : {M : Type 0} (view : M → MediumView) (r s : RingView M) (held : Option Flight) (f : Flight) (answer : Arrival) → Round view r held f answer s → AllKeep (devices_of r) (devices_of s)
-round_keeps view r s held f answer round = journey_keeps r.books.plan 1 (trip_of r.books (Some f)) round.behind (devices_of r) (devices_of s) (round_journey view r s held f answer round)
+round_keeps view r s held f answer round = journey_keeps r.books.plan 1 (trip_of r.books (Some f)) round.past_all (devices_of r) (devices_of s) (round_journey view r s held f answer round)
 
 -- the held frame goes on, which is held no more
 pub round_released : {M : Type 0} (view : M → MediumView) (r s : RingView M) (f : Flight) (answer : Arrival) → Round view (record r { books = record r.books { held = None } }) None f answer s → Round view r None f answer s
 round_released view r s f answer round = record {
   at_drive = round.at_drive;
   past_drive = round.past_drive;
-  behind = round.behind;
+  past_all = round.past_all;
   to_drive = round.to_drive;
   at = round.at;
   from_drive = round.from_drive;
@@ -92,11 +92,11 @@ round_released view r s f answer round = record {
   answer_is = round.answer_is;
 }
 
-module _ {M : Type 0} (view : M → MediumView) (r t s : RingView M) (flight : Flight) (answer : Arrival) (at : t ≡ record r { books = record r.books { held = None } }) (held : r.books.held ≡ Some flight) (is : IsHeld (Some flight)) (round : LedRound view t flight answer s) where
+module _ {M : Type 0} (view : M → MediumView) (r t s : RingView M) (flight : Flight) (answer : Arrival) (at : t ≡ record r { books = record r.books { held = None } }) (held : r.books.held ≡ Some flight) (is : IsHeld (Some flight)) (round : ControlledRound view t flight answer s) where
   pub relayed_round : IsUnderHost r.guest → IfSome r.books.held (λ f. Round view r None f answer s)
   relayed_round under =
-      let led = subst (λ t. LedRound view t flight answer s) at round in
-      let one : Round view r None flight answer s = round_released view r s flight answer (led_hands view (record r { books = record r.books { held = None } }) s flight answer led (data_hands flight.now is.1) under) in
+      let controlled = subst (λ t. ControlledRound view t flight answer s) at round in
+      let one : Round view r None flight answer s = round_released view r s flight answer (controlled_hands view (record r { books = record r.books { held = None } }) s flight answer controlled (data_hands flight.now is.1) under) in
       subst (λ held. IfSome held (λ f. Round view r None f answer s)) (sym held) one
 
   pub relay_keeps : IsUnderHost r.guest → AllKeep (devices_of r) (devices_of s)
@@ -106,9 +106,9 @@ module _ {M : Type 0} (view : M → MediumView) (r t s : RingView M) (flight : F
       kept_of None is round = let clash = is in cc
       kept_of (Some f) is round = round_keeps view r s None f answer round
 
--- the frame that stands at the host while the ring is lent goes on
-pub pass_round : {M : Type 0} (view : M → MediumView) (r t s : RingView M) (flight : Flight) (answer : Arrival) → t ≡ going_on r → r.books.lent ≡ Some flight → LedRound view t flight answer s → IfSome r.books.lent (λ f. LedRound view (going_on r) f answer s)
-pass_round view r t s flight answer at lent round = subst (λ lent. IfSome lent (λ f. LedRound view (going_on r) f answer s)) (sym lent) (subst (λ t. LedRound view t flight answer s) at round)
+-- the frame that is at the host while the ring is lent goes on
+pub pass_round : {M : Type 0} (view : M → MediumView) (r t s : RingView M) (flight : Flight) (answer : Arrival) → t ≡ going_on r → r.books.lent ≡ Some flight → ControlledRound view t flight answer s → IfSome r.books.lent (λ f. ControlledRound view (going_on r) f answer s)
+pass_round view r t s flight answer at lent round = subst (λ lent. IfSome lent (λ f. ControlledRound view (going_on r) f answer s)) (sym lent) (subst (λ t. ControlledRound view t flight answer s) at round)
 
 -- ---- by the kind of the frame
 
@@ -130,7 +130,7 @@ kept_sent view r s held f answer round = round_keeps view r s held f answer roun
 pub counts_sent : {M : Type 0} (view : M → MediumView) (r s : RingView M) (held : Option Flight) (f : Frame) (flight : Flight) (answer : Arrival) → Round view r held flight answer s → flight ≡ sourced 0 f → Rounded r held (sourced 0 f) answer s
 counts_sent view r s held f flight answer round is = round_counts view r s held (sourced 0 f) answer (inl refl) (subst (λ flight. Round view r held flight answer s) is round)
 
--- of a frame that is held, where there is one
+-- of a frame that is held, if there is one
 pub relay_told : {M : Type 0} (view : M → MediumView) (r s : RingView M) (held : Option Flight) (answer : Arrival) → IfSome held (λ f. Round view r None f answer s) → IsRing r
     → IfSome held (λ f. (own : OwnFrame) → IsTalking f.source (Some own) (devices_of r) → own.frame ≡ f.sent → StoodSo f → Relayed r f own answer s)
 relay_told view r s None answer round ring = tt

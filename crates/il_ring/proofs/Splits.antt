@@ -51,37 +51,37 @@ same_rest x y xs ys same = ap (λ l. elim l [ [] ↦ xs | z ∷ zs ↦ zs ]) sam
 pub record LiesBefore (xs ys bs rest : List DeviceState) (y d : DeviceState) : Type 0 where
   pub between : List DeviceState
   pub first : xs ≡ bs ++ d ∷ between
-  pub behind : rest ≡ between ++ y ∷ ys
+  pub after : rest ≡ between ++ y ∷ ys
 
 pub lies_before : (xs ys bs rest : List DeviceState) (y d : DeviceState) → xs ++ y ∷ ys ≡ bs ++ d ∷ rest → length bs < length xs → LiesBefore xs ys bs rest y d
 lies_before [] ys bs rest y d same lt = absurd (omega (arith, lt))
 lies_before (x ∷ xs) ys [] rest y d same lt = record {
   between = xs;
   first = ap (λ x. x ∷ xs) (same_first x d (xs ++ y ∷ ys) rest same);
-  behind = sym (same_rest x d (xs ++ y ∷ ys) rest same);
+  after = sym (same_rest x d (xs ++ y ∷ ys) rest same);
 }
 lies_before (x ∷ xs) ys (b ∷ bs) rest y d same lt =
     let more = lies_before xs ys bs rest y d (same_rest x b (xs ++ y ∷ ys) (bs ++ d ∷ rest) same) (omega (arith, lt)) in
     record {
       between = more.between;
       first = ap (λ x. x ∷ xs) (same_first x b (xs ++ y ∷ ys) (bs ++ d ∷ rest) same) ∙ ap (λ xs. b ∷ xs) more.first;
-      behind = more.behind;
+      after = more.after;
     }
 
--- d is y, where as many lie before the one as before the other
+-- d is y, if as many lie before the one as before the other
 pub record LiesAt (xs ys bs rest : List DeviceState) (y d : DeviceState) : Type 0 where
   pub is : y ≡ d
   pub before : xs ≡ bs
-  pub behind : ys ≡ rest
+  pub after : ys ≡ rest
 
 pub lies_at : (xs ys bs rest : List DeviceState) (y d : DeviceState) → xs ++ y ∷ ys ≡ bs ++ d ∷ rest → length xs ≡ length bs → LiesAt xs ys bs rest y d
-lies_at [] ys [] rest y d same at = record { is = same_first y d ys rest same; before = refl; behind = same_rest y d ys rest same }
+lies_at [] ys [] rest y d same at = record { is = same_first y d ys rest same; before = refl; after = same_rest y d ys rest same }
 lies_at (x ∷ xs) ys (b ∷ bs) rest y d same at =
     let more = lies_at xs ys bs rest y d (same_rest x b (xs ++ y ∷ ys) (bs ++ d ∷ rest) same) (omega (arith, at)) in
     record {
       is = more.is;
       before = ap (λ x. x ∷ xs) (same_first x b (xs ++ y ∷ ys) (bs ++ d ∷ rest) same) ∙ ap (λ xs. b ∷ xs) more.before;
-      behind = more.behind;
+      after = more.after;
     }
 lies_at [] ys (b ∷ bs) rest y d same at = absurd (omega (arith, at))
 lies_at (x ∷ xs) ys [] rest y d same at = absurd (omega (arith, at))
@@ -96,7 +96,7 @@ pub silent_front : (xs ys : List DeviceState) → AllSilent (xs ++ ys) → AllSi
 silent_front [] ys all = tt
 silent_front (x ∷ xs) ys all = (all.0, silent_front xs ys all.1)
 
--- those before y, where it lies no further than d, and all before d are silent
+-- those before y, if it lies no further than d, and all before d are silent
 pub silent_up_to : (xs ys bs rest : List DeviceState) (y d : DeviceState) → xs ++ y ∷ ys ≡ bs ++ d ∷ rest → length xs ≤ length bs → AllSilent bs → AllSilent xs
 silent_up_to [] ys bs rest y d same le all = tt
 silent_up_to (x ∷ xs) ys [] rest y d same le all = absurd (omega (arith, le))
@@ -115,7 +115,7 @@ pub none_sends_at : (bs rest : List DeviceState) (d : DeviceState) → NoneSends
 none_sends_at [] rest d none = none.0
 none_sends_at (b ∷ bs) rest d none = none_sends_at bs rest d none.1
 
--- ---- silent devices behind a frame
+-- ---- silent devices after a frame
 
 -- devices whose roles stay are silent still
 pub silent_still : (R : DeviceState → DeviceState → Type 0) (j : ℕ) (ds es : List DeviceState) → ((d e : DeviceState) → R d e → e.roles ≡ d.roles) → First R j ds es → AllSilent ds

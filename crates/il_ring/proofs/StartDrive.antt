@@ -70,14 +70,14 @@ taken_not_lost r s f answer taken lost =
     let same : entry 0 f (outcome.Taken taken.party) ∷ first.0 ≡ entry 0 f (outcome.Lost lost.party) ∷ [] = append_cancel_left r.books.log (entry 0 f (outcome.Taken taken.party) ∷ first.0) (entry 0 f (outcome.Lost lost.party) ∷ []) (sym first.1 ∙ lost.log_is) in
     let clash : outcome.Taken taken.party ≡ outcome.Lost lost.party = ap (λ l. elim l [ [] ↦ outcome.Lost lost.party | e ∷ es ↦ e.outcome ]) same in cc
 
--- it was not taken before the drive, where the devices there have no own frames behind it
-taken_behind : {M : Type 0} (r s : RingView M) (f : Frame) (answer : Arrival) → (taken : ring.StartTaken r f answer s) → NoneSends s.before → length s.before ≡ length r.before → taken.party < drive_party r → ⊥
-taken_behind r s f answer taken none same low =
+-- it was not taken before the drive, if the devices there have no own frames after it
+taken_after : {M : Type 0} (r s : RingView M) (f : Frame) (answer : Arrival) → (taken : ring.StartTaken r f answer s) → NoneSends s.before → length s.before ≡ length r.before → taken.party < drive_party r → ⊥
+taken_after r s f answer taken none same low =
     let talking = taken.talking in
-    let there = lies_before s.before s.after talking.before talking.behind (device_of s.drive.state) talking.talker talking.devices_are (omega (arith, low, same, talking.party)) in
+    let there = lies_before s.before s.after talking.before talking.after (device_of s.drive.state) talking.talker talking.devices_are (omega (arith, low, same, talking.party)) in
     let clash = sym (none_sends_at talking.before there.between talking.talker (subst NoneSends there.first none)) ∙ talking.own_is in cc
 
--- the drive took it, where it is that party, and answered by what this one sent
+-- the drive took it, if it is that party, and answered by what this one sent
 said_here : {M : Type 0} (view : M → MediumView) (r s : RingView M) (f : Frame) (answer : Arrival) → is_start (message_of f) ≡ true → NoneSends (devices_of r) → length s.before ≡ length r.before → DriveHad view (λ g. g ≡ f) r s
     → (taken : ring.StartTaken r f answer s) → drive_party r ≡ taken.party → DriveDid view (λ g out. (g ≡ f) × (out ≡ Source taken.sent)) r s
 said_here view r s f answer start none same had taken at = (had.0, (had.2.0, (had.1, by_answer (start_answer d e f had.2.0 start none_here takes)), had.2.1))
@@ -97,7 +97,7 @@ said_here view r s f answer start none same had taken at = (had.0, (had.2.0, (ha
     own_is : e.own ≡ Some taken.own
     own_is =
         let talking = taken.talking in
-        let lies = lies_at s.before s.after talking.before talking.behind e talking.talker talking.devices_are (omega (arith, at, same, talking.party)) in
+        let lies = lies_at s.before s.after talking.before talking.after e talking.talker talking.devices_are (omega (arith, at, same, talking.party)) in
         ap (λ (d : DeviceState). d.own) lies.is ∙ talking.own_is
 
     by_answer : StartAnswer f d had.2.0 e → had.2.0 ≡ Source taken.sent
@@ -141,7 +141,7 @@ module _ {M : Type 0} (view : M → MediumView) (r s : RingView M) (held : Optio
       (λ back. inl (back, passed_here view r s held f answer start none had back))
       (⊎_elim
       (λ gone. inr (inl (gone, inr had)))
-      (λ taken. inr (inr (taken, record { up_to = λ _. had; behind = λ low. absurd (taken_behind r s f answer taken (passed_none f (length r.before) r.before s.before start took none_before) same low); said = said_here view r s f answer start none same had taken }))))
+      (λ taken. inr (inr (taken, record { up_to = λ _. had; after = λ low. absurd (taken_after r s f answer taken (passed_none f (length r.before) r.before s.before start took none_before) same low); said = said_here view r s f answer start none same had taken }))))
       (start_round view r s held f answer within plan start none one round)
 
   -- it was lost before
@@ -160,21 +160,21 @@ module _ {M : Type 0} (view : M → MediumView) (r s : RingView M) (held : Optio
       let k = 1 + length here.before in
       let j = suc (length here.before) in
       let log = r.books.log ++ ended_at (sourced 0 f) k ∷ [] in
-      let size = length_split r.before here.before here.behind here.taker here.devices in
+      let size = length_split r.before here.before here.after here.taker here.devices in
       let more : List DeviceState = device_of r.drive.state ∷ r.after in
       let more_then : List DeviceState = device_of s.drive.state ∷ s.after in
-      let devices : devices_of r ≡ here.before ++ here.taker ∷ (here.behind ++ more) = ap (λ ds. ds ++ more) here.devices ∙ append_assoc here.before (here.taker ∷ here.behind) more in
-      let silent = one_talks 1 here.before (here.behind ++ more) here.taker (ap (λ ds. is_at_most_one (talkers (roles_of ds))) (sym devices) ∙ one) here.sends.talks in
-      let whole : StartTaken r.books.plan 1 r.books.crossings r.books.log (sourced 0 f) (devices_of r) round.behind (devices_of s) =
+      let devices : devices_of r ≡ here.before ++ here.taker ∷ (here.after ++ more) = ap (λ ds. ds ++ more) here.devices ∙ append_assoc here.before (here.taker ∷ here.after) more in
+      let silent = one_talks 1 here.before (here.after ++ more) here.taker (ap (λ ds. is_at_most_one (talkers (roles_of ds))) (sym devices) ∙ one) here.sends.talks in
+      let whole : StartTaken r.books.plan 1 r.books.crossings r.books.log (sourced 0 f) (devices_of r) round.past_all (devices_of s) =
       record {
         before = here.before;
         before_then = here.before_then;
         taker = here.taker;
         taker_then = here.taker_then;
-        behind = here.behind ++ more;
-        behind_then = here.behind_then ++ more_then;
+        after = here.after ++ more;
+        after_then = here.after_then ++ more_then;
         devices = devices;
-        devices_then = ap (λ es. es ++ more_then) here.devices_then ∙ append_assoc here.before_then (here.taker_then ∷ here.behind_then) more_then;
+        devices_then = ap (λ es. es ++ more_then) here.devices_then ∙ append_assoc here.before_then (here.taker_then ∷ here.after_then) more_then;
         same = here.same;
         took = here.took;
         clear = here.clear;
@@ -182,21 +182,21 @@ module _ {M : Type 0} (view : M → MediumView) (r s : RingView M) (held : Optio
         takes = here.takes;
         sends = here.sends;
         journey =
-            Journey-append r.books.plan (k + 1) (length r.before + 1) (trip (risen_by j r.books.crossings) log (Some (sourced k here.sent))) round.at_drive round.behind here.behind here.behind_then more more_then (omega (arith, size)) here.journey
+            Journey-append r.books.plan (k + 1) (length r.before + 1) (trip (risen_by j r.books.crossings) log (Some (sourced k here.sent))) round.at_drive round.past_all here.after here.after_then more more_then (omega (arith, size)) here.journey
             (drive_journey view r s held (sourced 0 f) answer round);
       } in
       let taken = taken_round view r s held f answer within plan one none round whole in
-      let sent : DriveTook view (IsBrought r s here.sent) r s = data_took view r s held (sourced 0 f) answer round j (k + 1) log (sourced k here.sent) here.behind here.behind_then within plan here.sends.data_frame (each_silent (k + 1) here.behind (silent_front here.behind more silent.1)) here.journey in
+      let sent : DriveTook view (IsBrought r s here.sent) r s = data_took view r s held (sourced 0 f) answer round j (k + 1) log (sourced k here.sent) here.after here.after_then within plan here.sends.data_frame (each_silent (k + 1) here.after (silent_front here.after more silent.1)) here.journey in
       inr (inr (
         taken.0,
         record {
           up_to = λ far. absurd (omega (arith, far, size, taken.1));
-          behind = λ _. subst (λ g. DriveTook view (IsBrought r s g) r s) (sym taken.2) sent;
+          after = λ _. subst (λ g. DriveTook view (IsBrought r s g) r s) (sym taken.2) sent;
           said = λ here. absurd (omega (arith, here, size, taken.1));
         },
       ))
 
-  -- The message comes to the drive up to the party that takes it, and behind it what this one sent, or a planned hop is met.
+  -- The message comes to the drive up to the party that takes it, and after it what this one sent, or a planned hop is reached.
   pub start_at_drive : StartAtDrive view r held f answer s
   start_at_drive =
       ⊎_elim

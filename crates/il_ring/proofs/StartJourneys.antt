@@ -27,7 +27,7 @@ pub record StartPassed (plan : List Planned) (n : ℕ) (log : List Entry) (f : F
   pub clear : IsClear plan n (length ds)
   pub took : First (LetsPass f.now) (length ds) ds es
 
--- it was lost behind so many of them
+-- it was lost after this many of them
 pub record StartLost (plan : List Planned) (k n : ℕ) (log : List Entry) (f : Flight) (ds : List DeviceState) (u : Trip) (es : List DeviceState) : Type 0 where
   pub reached : ℕ
   pub within : reached < length ds
@@ -41,17 +41,17 @@ pub record StartTaken (plan : List Planned) (k n : ℕ) (log : List Entry) (f : 
   pub before_then : List DeviceState
   pub taker : DeviceState
   pub taker_then : DeviceState
-  pub behind : List DeviceState
-  pub behind_then : List DeviceState
-  pub devices : ds ≡ before ++ taker ∷ behind
-  pub devices_then : es ≡ before_then ++ taker_then ∷ behind_then
+  pub after : List DeviceState
+  pub after_then : List DeviceState
+  pub devices : ds ≡ before ++ taker ∷ after
+  pub devices_then : es ≡ before_then ++ taker_then ∷ after_then
   pub same : length before_then ≡ length before
   pub took : First (LetsPass f.now) (length before) before before_then
   pub clear : IsClear plan n (suc (length before))
   pub sent : Frame
   pub takes : Takes taker f.now (Source sent) taker_then
   pub sends : SendsFirst f.now taker taker_then sent
-  pub journey : Journey plan (k + length before + 1) (trip (risen_by (suc (length before)) n) (log ++ ended_at f (k + length before) ∷ []) (Some (sourced (k + length before) sent))) behind u behind_then
+  pub journey : Journey plan (k + length before + 1) (trip (risen_by (suc (length before)) n) (log ++ ended_at f (k + length before) ∷ []) (Some (sourced (k + length before) sent))) after u after_then
 
 abbrev pub StartGoes : List Planned → ℕ → ℕ → List Entry → Flight → List DeviceState → Trip → List DeviceState → Type 0
 StartGoes plan k n log f ds u es = StartPassed plan n log f ds u es ⊎ (StartLost plan k n log f ds u es ⊎ StartTaken plan k n log f ds u es)
@@ -73,8 +73,8 @@ further plan k n log f d e ds es u none here (inr (inr taken)) =
       before_then = e ∷ taken.before_then;
       taker = taken.taker;
       taker_then = taken.taker_then;
-      behind = taken.behind;
-      behind_then = taken.behind_then;
+      after = taken.after;
+      after_then = taken.after_then;
       devices = ap (λ xs. d ∷ xs) taken.devices;
       devices_then = ap (λ xs. e ∷ xs) taken.devices_then;
       same = ap suc taken.same;
@@ -83,7 +83,7 @@ further plan k n log f d e ds es u none here (inr (inr taken)) =
       sent = taken.sent;
       takes = taken.takes;
       sends = taken.sends;
-      journey = subst (λ p. Journey plan (p + 1) (trip (risen_by (suc (suc (length taken.before))) n) (log ++ ended_at f p ∷ []) (Some (sourced p taken.sent))) taken.behind u taken.behind_then) at taken.journey;
+      journey = subst (λ p. Journey plan (p + 1) (trip (risen_by (suc (suc (length taken.before))) n) (log ++ ended_at f p ∷ []) (Some (sourced p taken.sent))) taken.after u taken.after_then) at taken.journey;
     }))
 
 -- what holds of the message as it goes past these devices
@@ -103,8 +103,8 @@ answered_start plan k n log f out d e ds es t u none takes is (inr sends) past j
       before_then = [];
       taker = d;
       taker_then = e;
-      behind = ds;
-      behind_then = es;
+      after = ds;
+      after_then = es;
       devices = refl;
       devices_then = refl;
       same = refl;

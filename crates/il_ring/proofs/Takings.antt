@@ -53,7 +53,7 @@ passes_by false d e f out data_frame asked takes =
     let passes : Answers turn.Pass d f out e = subst (λ u. Answers u d f out e) asked takes.answer in
     passes.answer ∙ ap (λ g. Pass g) (passed-data d.roles e.assignment e.wants f data_frame)
 
--- a device without an own frame passes a data frame on, its service bit set where it wants service
+-- a device without an own frame passes a data frame on, its service bit set if it wants service
 pub data_passes : (d e : DeviceState) (f : Frame) (out : Out) → is_data f ≡ true → d.own ≡ None → Takes d f out e → out ≡ Pass (served e.wants f)
 data_passes d e f out data_frame none takes =
     passes_by d.roles.listens d e f out data_frame (turn_of-data d f data_frame ∙ ap (λ own. turn_at_data own d.roles.listens) none) takes
@@ -61,7 +61,7 @@ data_passes d e f out data_frame none takes =
 pub passed_frame : (g h : Frame) → Pass g ≡ Pass h → g ≡ h
 passed_frame g h e = ap (λ out. elim out [ Pass f ↦ f | Source f ↦ f ]) e
 
--- what goes on behind a device that passes a data frame is one
+-- what goes on after a device that passes a data frame is one
 pub stays_data : (own : Option OwnFrame) (d e : DeviceState) (f h : Frame) (out : Out) → d.own ≡ own → is_data f ≡ true → Takes d f out e → out ≡ Pass h → is_data h ≡ true
 stays_data (Some own) d e f h out has data_frame takes is = absurd (own_sends d e f h out own data_frame has takes is)
 stays_data None d e f h out has data_frame takes is =

@@ -1,4 +1,4 @@
--- Where at most one device talks, all others are silent.
+-- If at most one device talks, all others are silent.
 use Rattle.std.proofs.Common.{◌≡◌, ◌++◌, ℕ, suc, Bool, true, false, List, [], ◌∷◌, refl, sym, ap, ◌∙◌}
 use Rattle.std.specs.Prelude.{if◌then◌else◌}
 use Rattle.il_device.specs.State.{DeviceState}

@@ -17,6 +17,7 @@ use Rattle.loop_model.specs.Reach.{is_reached}
 use Rattle.loop_model.specs.Roles.{roles_by, passed_on, roles_along, roles_after_entry, roles_after}
 use Rattle.loop_model.specs.Leading.{handed_or_back, controller_after_entry, controller_after, roles_led_entry, roles_led}
 use Rattle.loop_model.proofs.TalkLaws.{length-roles_after}
+use Rattle.il_ring.proofs.ControlledTalkers.{own_entry, same_if}
 use Rattle.il_ring.specs.Turned.{turned, turned_outcome, turned_entry, turned_entries, ends_on, is_on, is_auto_address, gives_no_address, own_roles_entry, own_roles}
 
 -- ---- entries of a ring
@@ -33,9 +34,9 @@ on_lost n source q f within there = grind (arith, nat_tests)
 
 -- ---- who controls
 
--- where the host sends nothing the controller stays
-pub stays_led : (k : ℕ) (e : Entry) → 1 ≤ e.source → controller_after_entry k e ≡ k
-stays_led k e from = ap (λ b. if b then handed_or_back k e.outcome (message_of e.frame) else k) (ne_eqb e.source 0 (λ same. omega (arith, same, from)))
+-- if the host sends nothing the controller stays
+pub stays_controlled : (k : ℕ) (e : Entry) → 1 ≤ e.source → controller_after_entry k e ≡ k
+stays_controlled k e from = ap (λ b. if b then handed_or_back k e.outcome (message_of e.frame) else k) (ne_eqb e.source 0 (λ same. omega (arith, same, from)))
 
 pub turned_some : (k p : ℕ) → 1 ≤ k → 1 ≤ turned k p
 turned_some k zero some = some
@@ -43,7 +44,7 @@ turned_some k (suc p) some = omega arith
 
 pub turned_controller : (k : ℕ) (es : List Entry) → 1 ≤ k → controller_after k (turned_entries k es) ≡ k
 turned_controller k [] some = refl
-turned_controller k (e ∷ es) some = ap (λ c. controller_after c (turned_entries k es)) (stays_led k (turned_entry k e) (turned_some k e.source some)) ∙ turned_controller k es some
+turned_controller k (e ∷ es) some = ap (λ c. controller_after c (turned_entries k es)) (stays_controlled k (turned_entry k e) (turned_some k e.source some)) ∙ turned_controller k es some
 
 -- ---- roles
 
@@ -66,18 +67,14 @@ goes_same : (m : Message) (r : Roles) → is_auto_address m ≡ false → passed
 goes_same (msg.Aad a) r none = cc
 goes_same m r none = refl
 
-same_where : (b : Bool) (m n : Message) → n ≡ m → (if b then n else m) ≡ m
-same_where true m n same = same
-same_where false m n same = refl
-
 on_same : (b : Bool) (m : Message) (r : Roles) → is_auto_address m ≡ false → (if b then passed_on m r else m) ≡ m
-on_same b m r none = same_where b m (passed_on m r) (goes_same m r none)
+on_same b m r none = same_if b (passed_on m r) m (goes_same m r none)
 
--- the last party, behind those whose roles are these
+-- the last party, after those whose roles are these
 at_last : (k j : ℕ) (o : Outcome) (m : Message) (r : Roles) → j ≡ k → roles_along k o j m (r ∷ []) ≡ roles_by m r ∷ []
 at_last k j o m r here = ap (λ b. (if b then roles_by m r else r) ∷ []) (ap (is_reached k o) here ∙ own_reached k o)
 
--- the devices from party j on, and the last party behind them
+-- the devices from party j on, and the last party after them
 along_last : (k j : ℕ) (o own : Outcome) (m : Message) (rs : List Roles) (r : Roles) → is_auto_address m ≡ false → j + length rs ≡ k → ((p : ℕ) → j ≤ p → p < k → is_reached k o p ≡ is_reached 0 own p)
     → roles_along k o j m (rs ++ r ∷ []) ≡ roles_along 0 own j m rs ++ roles_by m r ∷ []
 along_last k j o own m [] r none size same = at_last k j o m r (omega (arith, size))
@@ -88,7 +85,7 @@ along_last k j o own m (x ∷ rs) r none size same =
     let second = ap (λ m. roles_along 0 own (suc j) m rs) (on_same (is_reached 0 own j) m x none) in
     ap₂ (λ b rest. (if b then roles_by m x else x) ∷ rest) here (first ∙ (more ∙ ap (λ l. l ++ roles_by m r ∷ []) (sym second)))
 
--- where none of the devices is reached they leave the message to the last party
+-- if none of the devices is reached they leave the message to the last party
 unreached_last : (k j : ℕ) (o : Outcome) (m : Message) (rs : List Roles) (r : Roles) → j + length rs ≡ k → ((p : ℕ) → j ≤ p → p < k → is_reached k o p ≡ false)
     → roles_along k o j m (rs ++ r ∷ []) ≡ rs ++ roles_by m r ∷ []
 unreached_last k j o m [] r size none = at_last k j o m r (omega (arith, size))
@@ -97,39 +94,35 @@ unreached_last k j o m (x ∷ rs) r size none =
     let more = unreached_last k (suc j) o m rs r (omega (arith, size)) (λ p from less. none p (omega (arith, from)) less) in
     ap (λ b. (if b then roles_by m x else x) ∷ roles_along k o (suc j) (if b then passed_on m x else m) (rs ++ r ∷ [])) here ∙ ap (λ l. x ∷ l) more
 
--- what the last party sends goes along the ring
-led_own : (k : ℕ) (rs : List Roles) (f : Frame) (o : Outcome) → roles_led_entry k rs (entry k f o) ≡ roles_along k o 1 (message_of f) rs
-led_own k rs f o = ap (λ b. if b || ((k == 0) && is_ifc (message_of f)) then roles_along k o 1 (message_of f) rs else rs) (eq-eqb k k refl)
-
 -- a device's frame changes no roles
-pub led_device : (k p : ℕ) (rs : List Roles) (f : Frame) (o : Outcome) → 1 ≤ p → p < k → roles_led_entry k rs (entry p f o) ≡ rs
-led_device k p rs f o from on =
+pub controlled_device : (k p : ℕ) (rs : List Roles) (f : Frame) (o : Outcome) → 1 ≤ p → p < k → roles_led_entry k rs (entry p f o) ≡ rs
+controlled_device k p rs f o from on =
     ap₂ (λ b c. if b || (c && is_ifc (message_of f)) then roles_along p o 1 (message_of f) rs else rs) (ne_eqb p k (λ same. omega (arith, same, on)))
     (ne_eqb p 0 (λ same. omega (arith, same, from)))
 
--- a message of the last party that stands at the host, or was lost before it, changes the roles of that party alone
+-- a message of the last party that is at the host, or was lost before it, changes the roles of that party alone
 pub own_taken-roles : (k : ℕ) (rs : List Roles) (r : Roles) (f : Frame) → k ≡ suc (length rs)
     → roles_led_entry k (rs ++ r ∷ []) (entry k f (outcome.Taken 0)) ≡ rs ++ roles_by (message_of f) r ∷ []
 own_taken-roles k rs r f size =
-    led_own k (rs ++ r ∷ []) f (outcome.Taken 0) ∙ unreached_last k 1 (outcome.Taken 0) (message_of f) rs r (omega (arith, size)) (λ p from less. grind (arith, nat_tests))
+    own_entry k (rs ++ r ∷ []) f (outcome.Taken 0) ∙ unreached_last k 1 (outcome.Taken 0) (message_of f) rs r (omega (arith, size)) (λ p from less. grind (arith, nat_tests))
 
 pub own_lost-roles : (k : ℕ) (rs : List Roles) (r : Roles) (f : Frame) → k ≡ suc (length rs)
     → roles_led_entry k (rs ++ r ∷ []) (entry k f (outcome.Lost 0)) ≡ rs ++ roles_by (message_of f) r ∷ []
 own_lost-roles k rs r f size =
-    led_own k (rs ++ r ∷ []) f (outcome.Lost 0) ∙ unreached_last k 1 (outcome.Lost 0) (message_of f) rs r (omega (arith, size)) (λ p from less. grind (arith, nat_tests))
+    own_entry k (rs ++ r ∷ []) f (outcome.Lost 0) ∙ unreached_last k 1 (outcome.Lost 0) (message_of f) rs r (omega (arith, size)) (λ p from less. grind (arith, nat_tests))
 
 -- an entry does with the roles of the devices what it does in the smaller ring, and with those of the last party what it does with a host's own
 roles_at : (k source : ℕ) (f : Frame) (o : Outcome) (rs : List Roles) (r : Roles) → k ≡ suc (length rs) → source ≤ length rs → ends_on (length rs) source o ≡ true
     → gives_no_address (entry source f o) ≡ true
     → roles_led_entry k (rs ++ r ∷ []) (entry (turned k source) f (turned_outcome k o)) ≡ roles_after_entry rs (entry source f o) ++ own_roles_entry r (entry source f o) ∷ []
 roles_at k zero f o rs r size on ends none =
-    led_own k (rs ++ r ∷ []) f (turned_outcome k o)
+    own_entry k (rs ++ r ∷ []) f (turned_outcome k o)
     ∙ along_last k 1 (turned_outcome k o) o (message_of f) rs r (not-true (is_auto_address (message_of f)) none) (omega (arith, size))
     (λ p from less. reached_as (length rs) k p o size ends from (omega (arith, less, size)))
 roles_at k (suc p) f o rs r size on ends none =
     let stay =
     ap (λ b. (if b then roles_along 0 o 1 (message_of f) rs else rs) ++ (if b then roles_by (message_of f) r else r) ∷ []) (ne_eqb (suc p) 0 (λ same. omega (arith, same))) in
-    led_device k (suc p) (rs ++ r ∷ []) f (turned_outcome k o) (omega arith) (omega (arith, on, size)) ∙ sym stay
+    controlled_device k (suc p) (rs ++ r ∷ []) f (turned_outcome k o) (omega arith) (omega (arith, on, size)) ∙ sym stay
 
 pub turned_entry-roles : (k : ℕ) (e : Entry) (rs : List Roles) (r : Roles) → k ≡ suc (length rs) → is_on (length rs) e ≡ true → gives_no_address e ≡ true
     → roles_led_entry k (rs ++ r ∷ []) (turned_entry k e) ≡ roles_after_entry rs e ++ own_roles_entry r e ∷ []
@@ -144,7 +137,7 @@ turned_roles k [] rs r size on none = refl
 turned_roles k (e ∷ es) rs r size on none =
     let ons = and_parts (is_on (length rs) e) (list_all (is_on (length rs)) es) on in
     let nones = and_parts (gives_no_address e) (list_all gives_no_address es) none in
-    let stays = stays_led k (turned_entry k e) (turned_some k e.source (omega (arith, size))) in
+    let stays = stays_controlled k (turned_entry k e) (turned_some k e.source (omega (arith, size))) in
     let one = turned_entry-roles k e rs r size ons.0 nones.0 in
     let same = length-roles_after rs (e ∷ []) in
     ap₂ (λ c l. roles_led c l (turned_entries k es)) stays one

@@ -17,17 +17,17 @@ use Rattle.il_ring.specs.Flights.{hit, lost_at, ended_at}
 use Rattle.il_ring.specs.Books.{BooksView}
 use Rattle.il_ring.specs.Journeys.{Trip, trip, trip_of, DriveTakes}
 use Rattle.il_ring.specs.Guests.{guest_devices, guest_mind}
-use Rattle.il_ring.specs.Lending.{LedRound, LedTrip, GuestMeets, GuestReaches, LastPassage, books_led, leads, led_answers, led_home}
+use Rattle.il_ring.specs.Lending.{ControlledRound, ControlledTrip, GuestMeets, GuestReaches, LastPassage, books_controlled, leads, controlled_answers, controlled_home}
 use Rattle.il_ring.specs.Rings.{RingView, Round, arrived, arriving, books_at, comes, devices_of, home, over_last_link}
-use Rattle.il_ring.specs.Turned.{Halves, NothingCame, SomeCame, turned, turned_outcome, turned_entry, turned_entries, turned_flight, ring_before_last, books_anew}
+use Rattle.il_ring.specs.Turned.{HalvesOfRound, NothingCame, SomeCame, turned, turned_outcome, turned_entry, turned_entries, turned_flight, ring_before_last, books_anew}
 use Rattle.il_ring.proofs.CountSteps.{hit_same}
-use Rattle.il_ring.proofs.LedRounds.{led_party}
+use Rattle.il_ring.proofs.ControlledRounds.{controlled_party}
 use Rattle.il_ring.proofs.Rings.{Journey-length}
 use Rattle.il_ring.proofs.Turnings.{AreTurned, apart, entries_on, journey_turned, passage_turned, some_flight, turned_hit}
 
 -- ---- the round
 
-module _ {M : Type 0} (view : M → MediumView) (r s : RingView M) (f : Flight) (answer : Arrival) (round : LedRound view r (turned_flight (length (devices_of r)) f) answer s) (held : Option Flight) where
+module _ {M : Type 0} (view : M → MediumView) (r s : RingView M) (f : Flight) (answer : Arrival) (round : ControlledRound view r (turned_flight (length (devices_of r)) f) answer s) (held : Option Flight) where
   -- the trip to the last party, as that of the host's frame
   abbrev pub own_books : Trip → BooksView
   own_books last = home (books_at (books_anew held r.books) last) last.flight
@@ -41,7 +41,7 @@ module _ {M : Type 0} (view : M → MediumView) (r s : RingView M) (f : Flight) 
   turned_round g is within =
       let k = length (devices_of r) in
       let plan = r.books.plan in
-      let all = led_party view r s (turned_flight k f) answer round g is in
+      let all = controlled_party view r s (turned_flight k f) answer round g is in
       let start : AreTurned k r.books.log [] (trip_of r.books (Some (turned_flight k f))) (trip r.books.crossings [] (Some f)) = record {
         crossings = refl;
         entries = [];
@@ -59,7 +59,7 @@ module _ {M : Type 0} (view : M → MediumView) (r s : RingView M) (f : Flight) 
         its_round = record {
           at_drive = first.0;
           past_drive = middle.0;
-          behind = last.0;
+          past_all = last.0;
           to_drive = first.1;
           at = middle.1;
           from_drive = last.1;
@@ -87,14 +87,14 @@ ended_home k f within = ap (λ o. record { source = turned k f.source; frame = f
 pub lost_home : (k : ℕ) (f : Flight) → lost_at (turned_flight k f) k ≡ turned_entry k (lost_at f 0)
 lost_home k f = refl
 
-module _ (plan : List Planned) (k : ℕ) (log : List Entry) (t u : Trip) (are : AreTurned k log [] t u) (kept : Option Flight) (b : BooksView) (planned : plan ≡ b.plan) (g h : GuestState) (behind : LedTrip) where
+module _ (plan : List Planned) (k : ℕ) (log : List Entry) (t u : Trip) (are : AreTurned k log [] t u) (kept : Option Flight) (b : BooksView) (planned : plan ≡ b.plan) (g h : GuestState) (past_all : ControlledTrip) where
   abbrev pub own_at : Option Flight → BooksView
   own_at o = home (books_at b u) o
 
   abbrev pub CameLast : Option Flight → Type 0
-  CameLast o = NothingCame k log kept g h behind (arrived (arriving plan u.crossings o)) (own_at o) ⊎ SomeCame k log kept b g h behind (arrived (arriving plan u.crossings o)) (own_at o)
+  CameLast o = NothingCame k log kept g h past_all (arrived (arriving plan u.crossings o)) (own_at o) ⊎ SomeCame k log kept b g h past_all (arrived (arriving plan u.crossings o)) (own_at o)
 
-  meets_last : (f : Flight) → u.flight ≡ Some f → (o : Option Flight) → hit (next_fault plan u.crossings) f ≡ o → GuestMeets k t kept (turned_flight k f) (option_map (turned_flight k) o) g behind h → CameLast (Some f)
+  meets_last : (f : Flight) → u.flight ≡ Some f → (o : Option Flight) → hit (next_fault plan u.crossings) f ≡ o → GuestMeets k t kept (turned_flight k f) (option_map (turned_flight k) o) g past_all h → CameLast (Some f)
   meets_last f is None came met =
       let own : own_at (Some f) ≡ record b { crossings = risen u.crossings; log = u.log ++ lost_at f 0 ∷ []; held = None } =
       ap (λ plan. over_last_link (record b { crossings = risen u.crossings; log = u.log }) f (hit (next_fault plan u.crossings) f)) (sym planned)
@@ -102,15 +102,15 @@ module _ (plan : List Planned) (k : ℕ) (log : List Entry) (t u : Trip) (are : 
       inl (record {
         arrives_is = ap arrived came;
         same = met.1;
-        flight = ap (λ (l : LedTrip). l.trip.flight) met.0;
-        keeps = ap (λ (l : LedTrip). l.kept) met.0;
+        flight = ap (λ (l : ControlledTrip). l.trip.flight) met.0;
+        keeps = ap (λ (l : ControlledTrip). l.kept) met.0;
         log_is =
-            ap (λ (l : LedTrip). l.trip.log) met.0
+            ap (λ (l : ControlledTrip). l.trip.log) met.0
             ∙ ap (λ l. l ++ lost_at (turned_flight k f) k ∷ []) are.log_is
             ∙ entries_on k log are.entries (lost_at f 0)
             ∙ ap (λ l. log ++ turned_entries k (l ++ lost_at f 0 ∷ [])) (sym are.own_is)
             ∙ sym (ap (λ (b : BooksView). log ++ turned_entries k b.log) own);
-        crossings = ap (λ (l : LedTrip). l.trip.crossings) met.0 ∙ ap risen are.crossings ∙ sym (ap (λ (b : BooksView). b.crossings) own);
+        crossings = ap (λ (l : ControlledTrip). l.trip.crossings) met.0 ∙ ap risen are.crossings ∙ sym (ap (λ (b : BooksView). b.crossings) own);
         held = ap (λ (b : BooksView). b.held) own;
       })
   meets_last f is (Some at) came met =
@@ -128,38 +128,38 @@ module _ (plan : List Planned) (k : ℕ) (log : List Entry) (t u : Trip) (are : 
         takes = met.1;
         count = risen u.crossings;
         entries = are.entries;
-        behind_is = met.2 ∙ ap₂ (λ n l. led_answers n l k (turned_flight k at) kept met.0) (ap risen are.crossings) are.log_is;
+        past_all_is = met.2 ∙ ap₂ (λ n l. controlled_answers n l k (turned_flight k at) kept met.0) (ap risen are.crossings) are.log_is;
         own_is = own ∙ ap (λ l. comes (record b { crossings = risen u.crossings; log = l }) at (at.source == 0) (is_data at.now)) are.own_is;
       })
 
-  reaches_last : (o : Option Flight) → u.flight ≡ o → GuestReaches plan k t kept (option_map (turned_flight k) o) g behind h → CameLast o
+  reaches_last : (o : Option Flight) → u.flight ≡ o → GuestReaches plan k t kept (option_map (turned_flight k) o) g past_all h → CameLast o
   reaches_last None is reached = inl (record {
     arrives_is = refl;
     same = reached.1;
-    flight = ap (λ (l : LedTrip). l.trip.flight) reached.0 ∙ are.flight ∙ ap (option_map (turned_flight k)) is;
-    keeps = ap (λ (l : LedTrip). l.kept) reached.0;
-    log_is = ap (λ (l : LedTrip). l.trip.log) reached.0 ∙ are.log_is ∙ ap (λ l. log ++ turned_entries k l) (sym are.own_is);
-    crossings = ap (λ (l : LedTrip). l.trip.crossings) reached.0 ∙ are.crossings;
+    flight = ap (λ (l : ControlledTrip). l.trip.flight) reached.0 ∙ are.flight ∙ ap (option_map (turned_flight k)) is;
+    keeps = ap (λ (l : ControlledTrip). l.kept) reached.0;
+    log_is = ap (λ (l : ControlledTrip). l.trip.log) reached.0 ∙ are.log_is ∙ ap (λ l. log ++ turned_entries k l) (sym are.own_is);
+    crossings = ap (λ (l : ControlledTrip). l.trip.crossings) reached.0 ∙ are.crossings;
     held = refl;
   })
   reaches_last (Some f) is reached =
-      let behind_link = hit (next_fault plan u.crossings) f in
-      let same : hit (next_fault plan t.crossings) (turned_flight k f) ≡ option_map (turned_flight k) behind_link = ap (λ n. hit (next_fault plan n) (turned_flight k f)) are.crossings ∙ turned_hit k (next_fault plan u.crossings) f in
-      meets_last f is behind_link refl (subst (λ o. GuestMeets k t kept (turned_flight k f) o g behind h) same reached)
+      let after_link = hit (next_fault plan u.crossings) f in
+      let same : hit (next_fault plan t.crossings) (turned_flight k f) ≡ option_map (turned_flight k) after_link = ap (λ n. hit (next_fault plan n) (turned_flight k f)) are.crossings ∙ turned_hit k (next_fault plan u.crossings) f in
+      meets_last f is after_link refl (subst (λ o. GuestMeets k t kept (turned_flight k f) o g past_all h) same reached)
 
-  pub came_last : GuestReaches plan k t kept t.flight g behind h → CameLast u.flight
-  came_last reached = reaches_last u.flight refl (subst (λ o. GuestReaches plan k t kept o g behind h) are.flight reached)
+  pub came_last : GuestReaches plan k t kept t.flight g past_all h → CameLast u.flight
+  came_last reached = reaches_last u.flight refl (subst (λ o. GuestReaches plan k t kept o g past_all h) are.flight reached)
 
 -- ---- the whole round, in two halves
 
-module _ {M : Type 0} (view : M → MediumView) (r s : RingView M) (f : Flight) (answer : Arrival) (round : LedRound view r (turned_flight (length (devices_of r)) f) answer s) (held : Option Flight) (within : f.source < length (devices_of r)) where
-  halves_of : (guest later : Option GuestState) → round.guest ≡ guest → round.guest_then ≡ later → (IsSome guest) → Halves view r held f answer s
+module _ {M : Type 0} (view : M → MediumView) (r s : RingView M) (f : Flight) (answer : Arrival) (round : ControlledRound view r (turned_flight (length (devices_of r)) f) answer s) (held : Option Flight) (within : f.source < length (devices_of r)) where
+  halves_of : (guest later : Option GuestState) → round.guest ≡ guest → round.guest_then ≡ later → (IsSome guest) → HalvesOfRound view r held f answer s
   halves_of None later is next some = cc
   halves_of (Some g) None is next some =
-      let passage = subst (λ later. LastPassage r.books.plan (length (devices_of r)) round.at_last r.books.kept (Some g) round.behind later) next (subst (λ guest. LastPassage r.books.plan (length (devices_of r)) round.at_last r.books.kept guest round.behind round.guest_then) is round.past_last) in
+      let passage = subst (λ later. LastPassage r.books.plan (length (devices_of r)) round.at_last r.books.kept (Some g) round.past_all later) next (subst (λ guest. LastPassage r.books.plan (length (devices_of r)) round.at_last r.books.kept guest round.past_all round.guest_then) is round.past_last) in
       absurd passage
   halves_of (Some g) (Some h) is next some =
-      let passage = subst (λ later. LastPassage r.books.plan (length (devices_of r)) round.at_last r.books.kept (Some g) round.behind later) next (subst (λ guest. LastPassage r.books.plan (length (devices_of r)) round.at_last r.books.kept guest round.behind round.guest_then) is round.past_last) in
+      let passage = subst (λ later. LastPassage r.books.plan (length (devices_of r)) round.at_last r.books.kept (Some g) round.past_all later) next (subst (λ guest. LastPassage r.books.plan (length (devices_of r)) round.at_last r.books.kept guest round.past_all round.guest_then) is round.past_last) in
       let turns = turned_round view r s f answer round held g is within in
       let lead : leads s.guest ≡ is_leading h.control = ap leads (round.mind_then ∙ ap guest_mind next) in
       record {
@@ -176,13 +176,13 @@ module _ {M : Type 0} (view : M → MediumView) (r s : RingView M) (f : Flight) 
         arrives = arrived (arriving r.books.plan turns.last.crossings turns.last.flight);
         own = own_books view r s f answer round held turns.last;
         its_round = turns.its_round;
-        behind = round.behind;
-        came = came_last r.books.plan (length (devices_of r)) r.books.log round.at_last turns.last turns.are r.books.kept (books_anew held r.books) refl g h round.behind passage;
-        books = round.books ∙ ap (λ lead. led_home lead (length (devices_of r)) (books_led r.books round.behind) round.behind.trip.flight) lead;
+        past_all = round.past_all;
+        came = came_last r.books.plan (length (devices_of r)) r.books.log round.at_last turns.last turns.are r.books.kept (books_anew held r.books) refl g h round.past_all passage;
+        books = round.books ∙ ap (λ lead. controlled_home lead (length (devices_of r)) (books_controlled r.books round.past_all) round.past_all.trip.flight) lead;
         answer_is = round.answer_is;
       }
 
-  pub halves : IsSome r.guest → Halves view r held f answer s
+  pub halves : IsSome r.guest → HalvesOfRound view r held f answer s
   halves some = halves_of round.guest round.guest_then refl refl (there round.guest (subst IsSome round.mind some))
     where
       there : (guest : Option GuestState) → IsSome (guest_mind guest) → IsSome guest

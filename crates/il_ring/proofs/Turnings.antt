@@ -65,8 +65,8 @@ turned_lost k j f some = ap (λ q. record { source = turned k f.source; frame = 
 
 -- ---- two trips
 
--- The trip t is the trip u turned, the one behind this log, and the other behind that one. The frame that is on its way is not of a
--- party behind the devices.
+-- The trip t is the trip u turned, the one after this log, and the other after that one. The frame that is on its way is not of a
+-- party after the devices.
 pub record AreTurned (k : ℕ) (log own_log : List Entry) (t u : Trip) : Type 0 where
   pub crossings : t.crossings ≡ u.crossings
   pub entries : List Entry
@@ -130,9 +130,9 @@ module _ {D : Type 0} (takes : D → Frame → Out → D → Type 0) (plan : Lis
   reaches_turned : (o : Option Flight) → u.flight ≡ o → (v : Trip) → Reaches takes plan j t (option_map (turned_flight k) o) d v e → (w : Trip) × Reaches takes plan j u o d w e × AreTurned k log own_log v w
   reaches_turned None is v reached = (u, (refl, reached.1), subst (λ v. AreTurned k log own_log v u) (sym reached.0) are)
   reaches_turned (Some f) is v reached =
-      let behind = hit (next_fault plan u.crossings) f in
-      let same : hit (next_fault plan t.crossings) (turned_flight k f) ≡ option_map (turned_flight k) behind = ap (λ n. hit (next_fault plan n) (turned_flight k f)) are.crossings ∙ turned_hit k (next_fault plan u.crossings) f in
-      meets_turned f is behind refl v (subst (λ o. Meets takes j t (turned_flight k f) o d v e) same reached)
+      let after = hit (next_fault plan u.crossings) f in
+      let same : hit (next_fault plan t.crossings) (turned_flight k f) ≡ option_map (turned_flight k) after = ap (λ n. hit (next_fault plan n) (turned_flight k f)) are.crossings ∙ turned_hit k (next_fault plan u.crossings) f in
+      meets_turned f is after refl v (subst (λ o. Meets takes j t (turned_flight k f) o d v e) same reached)
 
   pub passage_turned : (v : Trip) → Passage takes plan j t d v e → (w : Trip) × Passage takes plan j u d w e × AreTurned k log own_log v w
   passage_turned v passage = reaches_turned u.flight refl v (subst (λ o. Reaches takes plan j t o d v e) are.flight passage)

@@ -30,7 +30,7 @@ come-other k party source j some within other on at = grind (arith, nat_tests)
 pub come-next : (k source j : ℕ) → j < k → (source ≤ j) ⊎ ((j + 1 < source) × (source ≤ k)) → (come_to k (j + 1) source (j + 1) ≡ 1) × (come_to k (j + 1) source j ≡ 0)
 come-next k source j on at = (grind (arith, nat_tests), grind (arith, nat_tests))
 
--- to none behind itself
+-- to none after itself
 pub come-self : (k party source : ℕ) → 1 ≤ party → party ≤ k → source ≤ k → come_to k party source source ≡ 0
 come-self k party source some within on = grind (arith, nat_tests)
 
@@ -63,11 +63,11 @@ come-before k source j on there = grind (arith, nat_tests)
 
 -- ---- held frames
 
--- a frame that stands at the host has crossed these links
+-- a frame that is at the host has crossed these links
 pub home-held : (k source : ℕ) → 1 ≤ source → source ≤ k → way k source k + 1 ≡ held_links k (Some source)
 home-held k source some on = grind (arith, nat_tests)
 
--- and come to the devices behind its source
+-- and come to the devices after its source
 pub come-held : (k party source : ℕ) → 1 ≤ party → party ≤ k → 1 ≤ source → source ≤ k → come_to k party source k ≡ held_passes party (Some source)
 come-held k party source some within from on = grind (arith, nat_tests)
 

@@ -1,4 +1,4 @@
--- What rounds one behind the other added, in the words of the entries that they appended.
+-- What rounds one after the other added, in the words of the entries that they appended.
 use Rattle.std.specs.Prelude.{◌≡◌, ◌+◌, ◌++◌, ℕ, true, List, length, Option}
 use Rattle.std.specs.List.{list_all}
 use Rattle.il_frames.specs.declared.frame.Frame.{Frame}
@@ -17,8 +17,8 @@ use Rattle.il_ring.specs.Lists.{First}
 use Rattle.il_ring.specs.Polls.{is_no_poll, KeepsPlace}
 
 -- The ring r became s. The log grew by these entries. Before them a frame of the device `from` was held that they account
--- for, and behind them one of the device `to`, if any: so many links were crossed and so many frames came to each device as
--- the entries stand for. They are entries of this ring. The roles are those that the entries give. Where no entry is a poll
+-- for, and after them one of the device `to`, if any: as many links were crossed and as many frames came to each device as
+-- the entries stand for. They are entries of this ring. The roles are those that the entries give. If no entry is a poll
 -- message the places in the poll stay. These frames came to the drive, in this order.
 pub record Adds {M : Type 0} (view : M → MediumView) (r : RingView M) (from : Option ℕ) (entries : List Entry) (to : Option ℕ) (s : RingView M) : Type 0 where
   pub log : s.books.log ≡ r.books.log ++ entries

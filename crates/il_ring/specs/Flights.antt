@@ -16,7 +16,7 @@ sourced party f = record { source = party; sent = f; now = f; altered = false }
 abbrev pub altered_by : ℕ → Frame → Frame
 altered_by change f = framed (class_of f) (bit_xor (byte_of f) change)
 
--- The frame behind a link where this is planned: a data or end frame is altered once on its trip. None where it is lost.
+-- The frame after a link if this is planned: a data or end frame is altered once on its trip. None if it is lost.
 abbrev pub hit : Option PlanFault → Flight → Option Flight
 hit None f = Some f
 hit (Some Lose) f = None
@@ -26,10 +26,10 @@ hit (Some (Alter change)) f = if is_data f.now && not f.altered then Some (recor
 abbrev pub HasAltered : Option Flight → Type 0
 HasAltered o = (f : Flight) × (o ≡ Some f) × (f.altered ≡ true)
 
--- its entry where it did not reach a party
+-- its entry if it did not reach a party
 abbrev pub lost_at : Flight → ℕ → Entry
 lost_at f party = record { source = f.source; frame = f.sent; outcome = outcome.Lost party }
 
--- its entry where it ended at a party: it came back to its source, or was taken by another
+-- its entry if it ended at a party: it came back to its source, or was taken by another
 abbrev pub ended_at : Flight → ℕ → Entry
 ended_at f party = record { source = f.source; frame = f.sent; outcome = if f.source == party then outcome.Back f.now else outcome.Taken party }

@@ -27,7 +27,7 @@ pub record HandLost {M : Type 0} (r : RingView M) (answer : Arrival) (s : RingVi
   pub log_is : s.books.log ≡ r.books.log ++ entry 0 tct (outcome.Lost party) ∷ []
   pub guest_is : s.guest ≡ r.guest
 
--- The last party took it, and its NOP stands at the host or was lost on the last link.
+-- The last party took it, and its NOP is at the host or was lost on the last link.
 pub record HandedOver {M : Type 0} (r : RingView M) (answer : Arrival) (s : RingView M) : Type 0 where
   pub boxed : List DeviceState
   pub boxed_then : List DeviceState

@@ -21,7 +21,7 @@ use Rattle.il_ring.specs.Plans.{next_fault}
 use Rattle.il_ring.specs.Flights.{sourced, hit, lost_at, ended_at}
 use Rattle.il_ring.specs.Books.{BooksView}
 
--- the crossings so far, the log, and the frame that is on its way, none where it was lost
+-- the crossings so far, the log, and the frame that is on its way, none if it was lost
 pub record Trip : Type 0 where
   pub crossings : ℕ
   pub log : List Entry
@@ -43,7 +43,7 @@ answered n log k f (Source g) = trip n (log ++ ended_at f k ∷ []) (Some (sourc
 abbrev pub missed : ℕ → List Entry → ℕ → Flight → Trip
 missed n log k f = trip n (log ++ lost_at f k ∷ []) None
 
--- behind the link the frame comes to party k, or was lost
+-- after the link the frame comes to party k, or was lost
 abbrev pub Meets : {D : Type 0} → (D → Frame → Out → D → Type 0) → ℕ → Trip → Flight → Option Flight → D → Trip → D → Type 0
 Meets takes k t f None d u e = (u ≡ missed (risen t.crossings) t.log k f) × (e ≡ d)
 Meets takes k t f (Some g) d u e = (out : Out) × takes d g.now out e × (u ≡ answered (risen t.crossings) t.log k g out)

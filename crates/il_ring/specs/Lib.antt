@@ -12,7 +12,7 @@ pub mod Outcomes
 pub mod Adds
 pub mod Polls
 pub mod Seen
-pub mod LedAdds
+pub mod ControlledAdds
 pub mod Lending
 pub mod Lends
 pub mod Statuses

@@ -7,7 +7,7 @@ abbrev pub Each : (ℕ → DeviceState → Type 0) → ℕ → List DeviceState 
 Each P k [] = Unit {0}
 Each P k (d ∷ ds) = P k d × Each P (k + 1) ds
 
--- the first so many devices, and the others are as they were
+-- the first n devices, and the others are as they were
 abbrev pub First : (DeviceState → DeviceState → Type 0) → ℕ → List DeviceState → List DeviceState → Type 0
 First R j [] [] = Unit {0}
 First R zero (d ∷ ds) (e ∷ es) = (e ≡ d) × First R zero ds es

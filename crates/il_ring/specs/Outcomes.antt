@@ -46,7 +46,7 @@ pub record Obeys (m : Message) (d e : DeviceState) : Type 0 where
   pub assignment : e.assignment ≡ assignment_after d.roles d.assignment m
   pub wants : may_change_service m ≡ false → e.wants ≡ d.wants
 
--- What became of the drive: such a frame came to it, or none did, since a planned hop was met.
+-- What became of the drive: such a frame came to it, or none did, since a planned hop was reached.
 abbrev pub DriveTook : {M : Type 0} → (M → MediumView) → (Frame → Type 0) → RingView M → RingView M → Type 0
 DriveTook view P r s = ((s.drive ≡ r.drive) × (met_between r s ≢ [])) ⊎ ((g : Frame) × P g × ((out : Out) × DriveTakes view r.drive g out s.drive))
 
@@ -58,7 +58,7 @@ DriveHad view P r s = (g : Frame) × P g × ((out : Out) × DriveTakes view r.dr
 abbrev pub DriveDid : {M : Type 0} → (M → MediumView) → (Frame → Out → Type 0) → RingView M → RingView M → Type 0
 DriveDid view P r s = (g : Frame) × ((out : Out) × P g out × DriveTakes view r.drive g out s.drive)
 
--- it came back to the host as g, and no planned hop was met
+-- it came back to the host as g, and no planned hop was reached
 pub record Returned {M : Type 0} (r : RingView M) (held : Option Flight) (f g : Frame) (answer : Arrival) (s : RingView M) : Type 0 where
   pub answer_is : answer ≡ arrival.Frame g
   pub log : s.books.log ≡ r.books.log ++ entry 0 f (outcome.Back g) ∷ []
@@ -84,11 +84,11 @@ pub record HearsByte (byte : ℕ) (d e : DeviceState) : Type 0 where
   pub accessory : e.accessory ≡ d.accessory
   pub assignment : e.assignment ≡ d.assignment
 
--- a data or end frame came, and where no planned hop was met it is f apart from the service bit
+-- a data or end frame came, and if no planned hop was reached it is f apart from the service bit
 abbrev pub IsBrought : {M : Type 0} → RingView M → RingView M → Frame → Frame → Type 0
 IsBrought r s f g = (is_data g ≡ true) × (met_between r s ≡ [] → with_service g ≡ with_service f)
 
--- it came back to the host with another byte, since a planned hop was met
+-- it came back to the host with another byte, since a planned hop was reached
 pub record CameAltered {M : Type 0} (r : RingView M) (held : Option Flight) (f : Frame) (answer : Arrival) (s : RingView M) : Type 0 where
   pub back : Frame
   pub answer_is : answer ≡ arrival.Frame back
@@ -117,7 +117,7 @@ pub record DataBroken {M : Type 0} (r : RingView M) (held : Option Flight) (f : 
 
 -- ---- start messages that no device took
 
--- it passed the message on: SAI only where it does not talk, or has no accessory ID
+-- it passed the message on: SAI only if it does not talk, or has no accessory ID
 pub record LetsPass (f : Frame) (d e : DeviceState) : Type 0 where
   pub obeyed : Obeys (message_of f) d e
   pub roles : e.roles ≡ d.roles
@@ -140,15 +140,15 @@ pub record StartGone {M : Type 0} (r : RingView M) (f : Frame) (answer : Arrival
 pub record IsTalking (p : ℕ) (own : Option OwnFrame) (devices : List DeviceState) : Type 0 where
   pub before : List DeviceState
   pub talker : DeviceState
-  pub behind : List DeviceState
-  pub devices_are : devices ≡ before ++ talker ∷ behind
+  pub after : List DeviceState
+  pub devices_are : devices ≡ before ++ talker ∷ after
   pub party : p ≡ length before + 1
   pub silent : AllSilent before
   pub talks : talker.roles.talks ≡ true
   pub own_is : talker.own ≡ own
-  pub silent_behind : AllSilent behind
+  pub silent_after : AllSilent after
 
--- Behind these entries the frame that party p sent is held at the host, altered or not.
+-- After these entries the frame that party p sent is held at the host, altered or not.
 pub record IsHeldNow {M : Type 0} (r : RingView M) (entries : List Entry) (p : ℕ) (sent : Frame) (altered : Bool) (answer : Arrival) (s : RingView M) : Type 0 where
   pub now : Frame
   pub answer_is : answer ≡ arrival.Frame now
@@ -158,13 +158,13 @@ pub record IsHeldNow {M : Type 0} (r : RingView M) (entries : List Entry) (p : �
   pub same : altered ≡ false → with_service now ≡ with_service sent
   pub other : altered ≡ true → byte_of now ≢ byte_of sent
 
--- Where a frame of party p can have been lost behind these entries: with none, on its way from the host to its source; else it was sent then,
--- and lost before a party behind its source, or before the host.
+-- Where a frame of party p can have been lost after these entries: with none, on its way from the host to its source; else it was sent then,
+-- and lost before a party after its source, or before the host.
 abbrev pub LostWhere : List Entry → ℕ → ℕ → Type 0
 LostWhere [] p party = (1 ≤ party) × (party ≤ p)
 LostWhere (e ∷ es) p party = (party ≡ 0) ⊎ (p < party)
 
--- behind these entries it was lost
+-- after these entries it was lost
 pub record IsLostNow {M : Type 0} (r : RingView M) (entries : List Entry) (p : ℕ) (sent : Frame) (answer : Arrival) (s : RingView M) : Type 0 where
   pub answer_is : answer ≡ arrival.Lost
   pub party : ℕ
@@ -190,14 +190,14 @@ pub record StartTaken {M : Type 0} (r : RingView M) (f : Frame) (answer : Arriva
   pub end : ((altered : Bool) × IsHeldNow r (entry 0 f (outcome.Taken party) ∷ []) party sent altered answer s × MatchBool altered (met_between r s ≢ []) (met_between r s ≡ []))
       ⊎ IsLostNow r (entry 0 f (outcome.Taken party) ∷ []) party sent answer s
 
--- party p took the start message f and sent this frame in its place: up to that party the message came to the drive, behind
--- it the frame, if a planned hop was not met; the drive, where it is that party, answered by it
+-- party p took the start message f and sent this frame in its place: up to that party the message came to the drive, after
+-- it the frame, if a planned hop was not reached; the drive, if it is that party, answered by it
 pub record DriveSawStart {M : Type 0} (view : M → MediumView) (f : Frame) (p : ℕ) (sent : Frame) (r s : RingView M) : Type 0 where
   pub up_to : drive_party r ≤ p → DriveHad view (λ g. g ≡ f) r s
-  pub behind : p < drive_party r → DriveTook view (IsBrought r s sent) r s
+  pub after : p < drive_party r → DriveTook view (IsBrought r s sent) r s
   pub said : drive_party r ≡ p → DriveDid view (λ g out. (g ≡ f) × (out ≡ Source sent)) r s
 
--- What came of a start message, and what of it came to the drive, which passed it on where no device took it.
+-- What came of a start message, and what of it came to the drive, which passed it on if no device took it.
 abbrev pub StartAtDrive : {M : Type 0} → (M → MediumView) → RingView M → Option Flight → Frame → Arrival → RingView M → Type 0
 StartAtDrive view r held f answer s = (StartReturned r held f answer s × DriveDid view (λ g out. (g ≡ f) × (out ≡ Pass f)) r s)
     ⊎ ((StartGone r f answer s × DriveTook view (λ g. g ≡ f) r s)
@@ -212,7 +212,7 @@ pub record StoodSo (held : Flight) : Type 0 where
   pub other : held.altered ≡ true → byte_of held.now ≢ byte_of held.sent
 
 -- how it came back to the device that sent it: the same apart from the service bit, or with another byte, since a planned hop
--- was met in this call or before
+-- was reached in this call or before
 pub record CameBack {M : Type 0} (r s : RingView M) (held : Flight) (right : Bool) (back : Frame) : Type 0 where
   pub data_frame : is_data back ≡ true
   pub echo : MatchBool right ((held.altered ≡ false) × (with_service back ≡ with_service held.sent))
@@ -226,7 +226,7 @@ CameAs right sent g = (is_data g ≡ true) × (right ≡ true → with_service g
 abbrev pub back_entry : Flight → Frame → Entry
 back_entry held back = entry held.source held.sent (outcome.Back back)
 
--- behind the right echo the device sent a further data frame
+-- after the right echo the device sent a further data frame
 pub record SendsMore {M : Type 0} (r : RingView M) (held : Flight) (own : OwnFrame) (back : Frame) (answer : Arrival) (s : RingView M) : Type 0 where
   pub right : with_service back ≡ with_service held.sent
   pub unaltered : held.altered ≡ false
@@ -240,7 +240,7 @@ pub record SendsMore {M : Type 0} (r : RingView M) (held : Flight) (own : OwnFra
   pub end : ((altered : Bool) × IsHeldNow r (back_entry held back ∷ []) held.source sent altered answer s × MatchBool altered (met_between r s ≢ []) (met_between r s ≡ []))
       ⊎ IsLostNow r (back_entry held back ∷ []) held.source sent answer s
 
--- or it ended the transmission: by ETO behind the right echo, else by ETE
+-- or it ended the transmission: by ETO after the right echo, else by ETE
 pub record EndsSending {M : Type 0} (r : RingView M) (held : Flight) (right : Bool) (back : Frame) (answer : Arrival) (s : RingView M) : Type 0 where
   pub talking : IsTalking held.source None (devices_of s)
   pub end : ((answer ≡ arrival.Frame (if right then eto else ete)) × (s.books.log ≡ r.books.log ++ (back_entry held back ∷ entry held.source (if right then eto else ete) (outcome.Taken 0) ∷ [])) × (s.books.held ≡ None)
@@ -252,8 +252,8 @@ abbrev pub Relayed : {M : Type 0} → RingView M → Flight → OwnFrame → Arr
 Relayed r held own answer s = IsLostNow r [] held.source held.sent answer s
     ⊎ ((right : Bool) × (back : Frame) × CameBack r s held right back × (SendsMore r held own back answer s ⊎ EndsSending r held right back answer s))
 
--- What its source sent then, and what of it came to the drive: behind the source the frame that it sent, if a planned hop was
--- not met. The drive, where it is the source, answered by that.
+-- What its source sent then, and what of it came to the drive: after the source the frame that it sent, if a planned hop was
+-- not reached. The drive, if it is the source, answered by that.
 abbrev pub SentAtDrive : {M : Type 0} → (M → MediumView) → RingView M → Flight → OwnFrame → Bool → Frame → Arrival → RingView M → Type 0
 SentAtDrive view r held own right back answer s = ((more : SendsMore r held own back answer s)
     × (held.source < drive_party r → DriveTook view (IsBrought r s more.sent) r s)
@@ -272,7 +272,7 @@ RelayedAtDrive view r held own answer s = (IsLostNow r [] held.source held.sent 
 
 -- ---- in every round
 
--- a device keeps its accessory ID and its room, and hears nothing where it does not listen
+-- a device keeps its accessory ID and its room, and hears nothing if it does not listen
 pub record Keeps (d e : DeviceState) : Type 0 where
   pub accessory : e.accessory ≡ d.accessory
   pub room : e.room ≡ d.room
@@ -289,7 +289,7 @@ AllKeep (d ∷ ds) [] = ⊥
 abbrev pub IsDeaf : ℕ → DeviceState → Type 0
 IsDeaf k d = d.roles.listens ≡ false
 
--- ---- roles, behind any round
+-- ---- roles, after any round
 
 -- the entry is a device's
 abbrev pub is_other : Entry → Bool

@@ -17,7 +17,7 @@ fault_at (p ∷ plan) n = if p.hop == n then Some p.fault else fault_at plan n
 abbrev pub last_crossing : ℕ
 last_crossing = 18446744073709551615
 
--- what is planned at the crossing behind n of them; behind the greatest count nothing is
+-- what is planned at the crossing after n of them; after the greatest count nothing is
 abbrev pub next_fault : List Planned → ℕ → Option PlanFault
 next_fault plan n = if nat_lt n last_crossing then fault_at plan (n + 1) else None
 
@@ -26,7 +26,7 @@ abbrev pub is_fault : PlanFault → Bool
 is_fault Lose = true
 is_fault (Alter change) = not (change == 0)
 
--- crossings behind this one, each behind the one before
+-- crossings after this one, each after the one before
 abbrev pub rises_from : ℕ → List Planned → Bool
 rises_from n [] = true
 rises_from n (p ∷ plan) = nat_lt n p.hop && (is_fault p.fault && rises_from p.hop plan)

@@ -1,4 +1,4 @@
--- The identify frame behind devices, in the order of the ring: each sets the bit of its place in the parallel poll, and the
+-- The identify frame after devices, in the order of the ring: each sets the bit of its place in the parallel poll, and the
 -- service bit (HP-IL Interface Specification, parallel poll). Which messages change a place.
 use Rattle.std.specs.Prelude.{◌≡◌, not, Bool, true, false, List, [], ◌∷◌}
 use Rattle.il_frames.specs.declared.entry.Entry.{Entry}

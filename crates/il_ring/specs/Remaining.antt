@@ -1,4 +1,4 @@
--- What is still to come of the rounds of a second controller, from a place in them on: the entries of its rounds, as they will be where
+-- What is still to come of the rounds of a second controller, from a place in them on: the entries of its rounds, as they will be if
 -- the addresses that it has not asked yet answer so.
 use Rattle.std.specs.Prelude.{◌≡◌, ◌+◌, ℕ, suc, true, List, [], ◌∷◌, ◌++◌, Option}
 use Rattle.std.specs.List.{flat_map, list_all}
@@ -11,9 +11,9 @@ use Rattle.il_guest.specs.declared.control.Command.{Command}
 use Rattle.il_guest.specs.declared.control.Command.TheVariants as command
 use Rattle.il_guest.specs.Frames.{nop}
 use Rattle.il_guest.specs.Rounds.{addresses_from}
-use Rattle.il_ring.specs.Lends.{all_asked, are_told_by, is_one_status, rounds_asked, rounds_entries}
+use Rattle.il_ring.specs.Lends.{receives_of, are_reported_by, is_one_status, rounds_asked, rounds_entries}
 
--- the first answer; where none is given no device takes SST
+-- the first answer; if none is given no device takes SST
 abbrev pub first_answer : List Answer → Answer
 first_answer [] = NotTaken
 first_answer (answer ∷ answers) = answer
@@ -25,7 +25,7 @@ answers_after (answer ∷ answers) = answers
 
 -- these addresses are asked yet in this round, and then all of them again
 abbrev pub asked_yet : ℕ → List ℕ → List ℕ → List Answer → List (List Answer) → List Entry
-asked_yet k addresses more now later = flat_map (entries_of k) (all_asked more now ++ rounds_asked addresses later)
+asked_yet k addresses more now later = flat_map (entries_of k) (receives_of more now ++ rounds_asked addresses later)
 
 -- from the UNT of an address on, from its SST on
 abbrev pub from_unt : ℕ → List ℕ → List ℕ → List Answer → List (List Answer) → List Entry
@@ -35,7 +35,7 @@ abbrev pub from_start : ℕ → List ℕ → List ℕ → List Answer → List (
 from_start k addresses more now later =
     answer_entries k (start_frame Sst) (first_answer now) ++ from_unt k addresses more (answers_after now) later
 
--- from a command on; behind its address these are asked yet
+-- from a command on; after its address these are asked yet
 abbrev pub from_command : ℕ → List ℕ → List ℕ → Command → List Answer → List (List Answer) → List Entry
 from_command k addresses more command.Nop now later =
     returned k nop ∷ returned k rfc ∷ asked_yet k addresses addresses now later
@@ -60,12 +60,12 @@ from_byte k addresses more q d now later =
 
 -- such are the statuses of a round, in which these addresses are asked
 abbrev pub IsRound : ℕ → List ℕ → List Answer → Type 0
-IsRound k asked answers = (list_all (is_one_status k) answers ≡ true) × (are_told_by asked answers ≡ true)
+IsRound k asked answers = (list_all (is_one_status k) answers ≡ true) × (are_reported_by asked answers ≡ true)
 
 -- those of rounds
 abbrev pub AreRounds : ℕ → List ℕ → List (List Answer) → Type 0
 AreRounds k asked answers =
-    (list_all (λ round. list_all (is_one_status k) round) answers ≡ true) × (list_all (are_told_by asked) answers ≡ true)
+    (list_all (λ round. list_all (is_one_status k) round) answers ≡ true) × (list_all (are_reported_by asked) answers ≡ true)
 
 -- The entries begin rounds that go on so, however the addresses will answer, of which these are asked yet in this one.
 abbrev pub BeginRounds : ℕ → List ℕ → List Entry → List ℕ → (List Answer → List (List Answer) → List Entry) → Type 0

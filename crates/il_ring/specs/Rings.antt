@@ -16,7 +16,7 @@ use Rattle.il_ring.specs.Fates.{ShowsPlan}
 use Rattle.il_ring.specs.Journeys.{Trip, trip_of, Passage, Journey, DriveTakes}
 use Rattle.il_ring.specs.Guests.{GuestMind}
 
--- the devices before the drive, the drive with its medium, the devices behind it, a second controller's last among them, what
+-- the devices before the drive, the drive with its medium, the devices after it, a second controller's last among them, what
 -- such a one has in mind, and the books
 pub record RingView (M : Type 0) : Type 0 where
   pub before : List DeviceState
@@ -42,7 +42,7 @@ abbrev pub spare_of : {M : Type 0} → RingView M → ℕ
 spare_of r = r.books.room - length r.books.log
 
 -- what holds of a ring at every moment at which it is not lent; its drive is one over a tape of some number of records, no
--- frame stands as on a lent ring, and its log tells the planned faults as they were planned
+-- frame is held as on a lent ring, and its log shows the planned faults as they were planned
 pub record IsRing {M : Type 0} (r : RingView M) : Type 0 where
   pub few : length r.before + length r.after ≤ 29
   pub plan : IsPlan r.books.plan
@@ -59,7 +59,7 @@ pub record IsRing {M : Type 0} (r : RingView M) : Type 0 where
 abbrev pub IsNewcomer : DeviceState → Type 0
 IsNewcomer d = IsIdle d × (d.accessory ≢ Some drive_id)
 
--- a device that may stand on a new ring: a newcomer, which keeps the rules of every device
+-- a device that may be on a new ring: a newcomer, which keeps the rules of every device
 abbrev pub MayStand : DeviceState → Type 0
 MayStand d = IsIdle d × (d.accessory ≢ Some drive_id) × IsDevice d
 
@@ -98,7 +98,7 @@ comes b f true is_data_frame = record b { log = b.log ++ ended_at f 0 ∷ [] }
 comes b f false true = record b { held = Some f }
 comes b f false false = record b { log = b.log ++ ended_at f 0 ∷ []; held = None }
 
--- behind the last link, which leads to the host; a loss drops the held frame
+-- after the last link, which leads to the host; a loss drops the held frame
 abbrev pub over_last_link : BooksView → Flight → Option Flight → BooksView
 over_last_link b f None = record b { log = b.log ++ lost_at f 0 ∷ []; held = None }
 over_last_link b f (Some g) = comes b g (g.source == 0) (is_data g.now)
@@ -116,19 +116,19 @@ abbrev pub arrived : Option Flight → Arrival
 arrived None = arrival.Lost
 arrived (Some f) = arrival.Frame f.now
 
--- the books as a trip stands
+-- the books after a trip
 abbrev pub books_at : BooksView → Trip → BooksView
 books_at b t = record b { crossings = t.crossings; log = t.log }
 
--- A frame goes past the devices before the drive, the drive and the devices behind it, and comes home to the host, or is
+-- A frame goes past the devices before the drive, the drive and the devices after it, and comes home to the host, or is
 -- lost on its way. The ring is r before and s then, and `held` was at the host meanwhile.
 pub record Round {M : Type 0} (view : M → MediumView) (r : RingView M) (held : Option Flight) (f : Flight) (answer : Arrival) (s : RingView M) : Type 0 where
   pub at_drive : Trip
   pub past_drive : Trip
-  pub behind : Trip
+  pub past_all : Trip
   pub to_drive : Journey r.books.plan 1 (trip_of r.books (Some f)) r.before at_drive s.before
   pub at : Passage (DriveTakes view) r.books.plan (length r.before + 1) at_drive r.drive past_drive s.drive
-  pub from_drive : Journey r.books.plan (length r.before + 2) past_drive r.after behind s.after
+  pub from_drive : Journey r.books.plan (length r.before + 2) past_drive r.after past_all s.after
   pub guest : s.guest ≡ r.guest
-  pub books : s.books ≡ home (books_at (record r.books { held = held }) behind) behind.flight
-  pub answer_is : answer ≡ arrived (arriving r.books.plan behind.crossings behind.flight)
+  pub books : s.books ≡ home (books_at (record r.books { held = held }) past_all) past_all.flight
+  pub answer_is : answer ≡ arrived (arriving r.books.plan past_all.crossings past_all.flight)

@@ -14,7 +14,7 @@ use Rattle.il_ring.specs.Rings.{RingView, devices_of}
 abbrev pub party_of : Flight → ℕ
 party_of f = f.source
 
--- the device whose frame goes round, where it is one's
+-- the device whose frame goes round, if it is one's
 abbrev pub device_sending : Flight → Option ℕ
 device_sending f = if f.source == 0 then None else Some f.source
 
@@ -22,7 +22,7 @@ device_sending f = if f.source == 0 then None else Some f.source
 abbrev pub holding : Option Flight → Option ℕ
 holding held = option_map party_of held
 
--- the device at party q took so many frames more: with those that a frame of this device had brought before, those that the
+-- the device at party q took this many frames more: with those that a frame of this device had brought before, those that the
 -- entries brought, and with them those of a frame that is held
 abbrev pub Took : ℕ → Option ℕ → List Entry → Option ℕ → ℕ → DeviceState → DeviceState → Type 0
 Took k sending entries held q d e = (c : ℕ) × (e.frames ≡ risen_by c d.frames) × (c + held_passes q sending ≡ passes_so_far k q entries held)
@@ -42,7 +42,7 @@ own_at i [] = None
 own_at zero (d ∷ ds) = d.own
 own_at (suc i) (d ∷ ds) = own_at i ds
 
--- the frame is a data frame of one of the devices behind party j, which has an own frame on the loop
+-- the frame is a data frame of one of the devices after party j, which has an own frame on the loop
 pub record IsAwaited (j : ℕ) (f : Flight) (ds : List DeviceState) : Type 0 where
   pub place : ℕ
   pub there : f.source ≡ j + 1 + place

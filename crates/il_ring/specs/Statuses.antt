@@ -1,4 +1,4 @@
--- What the log of a second controller's rounds tells of the statuses that it asked for. Source: HP-IL Interface Specification,
+-- What the log of a second controller's rounds shows of the statuses that it asked for. Source: HP-IL Interface Specification,
 -- HP 82166-90017, send status and end of transmission; that the last status of each address counts is this project's own.
 use Rattle.std.specs.Prelude.{◌≡◌, ℕ, ◌==◌, ◌&&◌, not, if◌then◌else◌, All, Bool, true, false, List, [], ◌∷◌, Option, Some, None}
 use Rattle.il_frames.specs.declared.entry.Entry.{Entry}
@@ -29,63 +29,63 @@ abbrev pub is_ended : ℕ → Entry → List Entry → Bool
 is_ended k e [] = false
 is_ended k e (next ∷ log) = (next.source == e.source) && (is_frame next.frame eto && is_taken_by k next.outcome)
 
--- the entry is a byte that was told to party k, whose source ended by ETO
-abbrev pub is_told : ℕ → Entry → List Entry → Bool
-is_told k e log = is_data e.frame && is_ended k e log
+-- the entry is a byte that was reported to party k, whose source ended by ETO
+abbrev pub is_reported : ℕ → Entry → List Entry → Bool
+is_reported k e log = is_data e.frame && is_ended k e log
 
--- the bytes that the device at party q told so, in their order
-abbrev pub told_by : ℕ → ℕ → List Entry → List ℕ
-told_by k q [] = []
-told_by k q (e ∷ log) =
-    if (e.source == q) && is_told k e log then byte_of e.frame ∷ told_by k q log else told_by k q log
+-- the bytes that the device at party q reported so, in their order
+abbrev pub reported_by : ℕ → ℕ → List Entry → List ℕ
+reported_by k q [] = []
+reported_by k q (e ∷ log) =
+    if (e.source == q) && is_reported k e log then byte_of e.frame ∷ reported_by k q log else reported_by k q log
 
 -- ---- the last status of an address
 
--- the address that is asked behind a message
-abbrev pub asked_behind : Option ℕ → Message → Option ℕ
-asked_behind before (msg.Tad a) = Some a
-asked_behind before m = before
+-- the address that is asked after a message
+abbrev pub asked_after_message : Option ℕ → Message → Option ℕ
+asked_after_message before (msg.Tad a) = Some a
+asked_after_message before m = before
 
--- and behind an entry: only party k asks
+-- and after an entry: only party k asks
 abbrev pub asked_after : ℕ → Option ℕ → Entry → Option ℕ
-asked_after k before e = if e.source == k then asked_behind before (message_of e.frame) else before
+asked_after k before e = if e.source == k then asked_after_message before (message_of e.frame) else before
 
--- the address that is asked behind these entries
+-- the address that is asked after these entries
 abbrev pub asked_all : ℕ → Option ℕ → List Entry → Option ℕ
 asked_all k asked [] = asked
 asked_all k asked (e ∷ log) = asked_all k (asked_after k asked e) log
 
--- party k's SST came back: no device told anything
-abbrev pub tells_none : ℕ → Entry → Bool
-tells_none k e = (e.source == k) && (is_frame e.frame sst && is_back e.outcome)
+-- party k's SST came back: no device reported anything
+abbrev pub reports_none : ℕ → Entry → Bool
+reports_none k e = (e.source == k) && (is_frame e.frame sst && is_back e.outcome)
 
--- what is known of the address that is asked, behind an entry that these follow
-abbrev pub known_behind : ℕ → Option ℕ → Entry → List Entry → Option ℕ
-known_behind k before e log =
-    if tells_none k e then None else (if is_told k e log then Some (byte_of e.frame) else before)
+-- what is known of the address that is asked, after an entry that these follow
+abbrev pub known_after : ℕ → Option ℕ → Entry → List Entry → Option ℕ
+known_after k before e log =
+    if reports_none k e then None else (if is_reported k e log then Some (byte_of e.frame) else before)
 
 abbrev pub is_asked : ℕ → Option ℕ → Bool
 is_asked a None = false
 is_asked a (Some b) = b == a
 
--- what is known of address a, where that one is asked now and so much was known before
+-- what is known of address a, if that one is asked now and this was known before
 abbrev pub known_of : ℕ → ℕ → Option ℕ → Option ℕ → List Entry → Option ℕ
 known_of k a asked before [] = before
 known_of k a asked before (e ∷ log) =
-    known_of k a (asked_after k asked e) (if is_asked a asked then known_behind k before e log else before) log
+    known_of k a (asked_after k asked e) (if is_asked a asked then known_after k before e log else before) log
 
--- the last status of address a that party k was told: the byte of the last one, or none where SST came back since
-abbrev pub last_told : ℕ → ℕ → List Entry → Option ℕ
-last_told k a log = known_of k a None None log
+-- the last status of address a that was reported to party k: the byte of the last one, or none if SST came back since
+abbrev pub last_known : ℕ → ℕ → List Entry → Option ℕ
+last_known k a log = known_of k a None None log
 
--- where one is asked so far, no SST of party k came back in these entries while address a was asked
+-- if one is asked so far, no SST of party k came back in these entries while address a was asked
 abbrev pub answers_always : ℕ → ℕ → Option ℕ → List Entry → Bool
 answers_always k a asked [] = true
-answers_always k a asked (e ∷ log) = not (is_asked a asked && tells_none k e) && answers_always k a (asked_after k asked e) log
+answers_always k a asked (e ∷ log) = not (is_asked a asked && reports_none k e) && answers_always k a (asked_after k asked e) log
 
 -- ---- the drive
 
--- The drive told these bytes: first its status, which is 0 then, and 0 each further time.
-abbrev pub ToldStatus : ℕ → List ℕ → ℕ → Type 0
-ToldStatus before [] now = now ≡ before
-ToldStatus before (byte ∷ more) now = (byte ≡ status_byte_of before) × All (λ b. b ≡ 0) more × (now ≡ 0)
+-- The drive reported these bytes: first its status, which is 0 then, and 0 each further time.
+abbrev pub ReportsStatus : ℕ → List ℕ → ℕ → Type 0
+ReportsStatus before [] now = now ≡ before
+ReportsStatus before (byte ∷ more) now = (byte ≡ status_byte_of before) × All (λ b. b ≡ 0) more × (now ≡ 0)

@@ -28,10 +28,10 @@ use Rattle.il_ring.specs.Plans.{next_fault}
 use Rattle.il_ring.specs.Flights.{hit, sourced}
 use Rattle.il_ring.specs.Books.{BooksView}
 use Rattle.il_ring.specs.Guests.{mind_of}
-use Rattle.il_ring.specs.Lending.{LedTrip, books_led, entry_where, led_answers, led_home}
+use Rattle.il_ring.specs.Lending.{ControlledTrip, books_controlled, entry_of_kept, controlled_answers, controlled_home}
 use Rattle.il_ring.specs.Rings.{RingView, Round, arrived, arriving, comes, devices_of}
 
--- the party that is 0 where it is the host's
+-- the party that is 0 if it is the host's
 abbrev pub turned : ℕ → ℕ → ℕ
 turned k zero = k
 turned k (suc party) = suc party
@@ -41,7 +41,7 @@ turned_outcome k (outcome.Back f) = outcome.Back f
 turned_outcome k (outcome.Taken q) = outcome.Taken (turned k q)
 turned_outcome k (outcome.Lost q) = outcome.Lost (turned k q)
 
--- the entry of a loop whose controller is party k, that would be this one where the host is
+-- the entry of a loop whose controller is party k, that would be this one if the host is
 abbrev pub turned_entry : ℕ → Entry → Entry
 turned_entry k e = entry (turned k e.source) e.frame (turned_outcome k e.outcome)
 
@@ -89,13 +89,13 @@ own_roles r (e ∷ es) = own_roles (own_roles_entry r e) es
 abbrev pub ring_before_last : {M : Type 0} → List DeviceState → BooksView → RingView M → RingView M
 ring_before_last boxed b r = record r { after = boxed; guest = None; books = b }
 
--- where nothing is in the log yet, and this frame is held, or none
+-- if nothing is in the log yet, and this frame is held, or none
 abbrev pub books_anew : Option Flight → BooksView → BooksView
 books_anew held b = record b { log = []; held = held; lent = None; kept = None }
 
 -- ---- what goes out
 
--- the frame that goes out as a second controller comes to stand so, where it keeps this one, or none
+-- the frame that goes out as a second controller comes to stand so, if it keeps this one, or none
 abbrev pub goes_out : ℕ → Control → Option Flight → Option Flight
 goes_out k (control.Rounds (place.Command c)) kept = Some (sourced k (command_frame c))
 goes_out k (control.Rounds (place.Ready c)) kept = Some (sourced k rfc)
@@ -110,7 +110,7 @@ abbrev pub keeps_then : Control → Option Flight → Option Flight
 keeps_then (control.Rounds (place.Relayed a d)) kept = None
 keeps_then c kept = kept
 
--- behind these entries this frame stands at the host, as it came over the last link, and that one is kept
+-- after these entries this frame is at the host, as it came over the last link, and that one is kept
 pub record StandsThere {M : Type 0} (r : RingView M) (entries : List Entry) (out : Flight) (kept : Option Flight) (before : ℕ) (answer : Arrival)
     (s : RingView M) : Type 0 where
   pub at : Flight
@@ -121,11 +121,11 @@ pub record StandsThere {M : Type 0} (r : RingView M) (entries : List Entry) (out
   pub kept_is : s.books.kept ≡ kept
   pub crossings : s.books.crossings ≡ risen before
 
--- nothing does: behind these entries and that of the frame that was kept, if any, the log ends with these
+-- nothing does: after these entries and that of the frame that was kept, if any, the log ends with these
 pub record StandsNot {M : Type 0} (r : RingView M) (entries : List Entry) (kept : Option Flight) (last : List Entry) (crossings : ℕ) (answer : Arrival)
     (s : RingView M) : Type 0 where
   pub answer_is : answer ≡ arrival.Lost
-  pub log_is : s.books.log ≡ r.books.log ++ (entries ++ (entry_where (length (devices_of r)) kept ++ last))
+  pub log_is : s.books.log ≡ r.books.log ++ (entries ++ (entry_of_kept (length (devices_of r)) kept ++ last))
   pub lent_is : s.books.lent ≡ None
   pub kept_is : s.books.kept ≡ None
   pub crossings_are : s.books.crossings ≡ crossings
@@ -133,18 +133,18 @@ pub record StandsNot {M : Type 0} (r : RingView M) (entries : List Entry) (kept 
 -- ---- a pass in two halves
 
 -- The second controller, in the state g, was to take what came over the link to it, and is then in the state h; nothing came to it, or this
--- frame did, which it answered. In the words of the ring of the others, behind these entries: what came home there, and its books then.
-pub record NothingCame (k : ℕ) (log : List Entry) (kept : Option Flight) (g h : GuestState) (behind : LedTrip) (arrives : Arrival) (own : BooksView) :
+-- frame did, which it answered. In the words of the ring of the others, after these entries: what came home there, and its books then.
+pub record NothingCame (k : ℕ) (log : List Entry) (kept : Option Flight) (g h : GuestState) (past_all : ControlledTrip) (arrives : Arrival) (own : BooksView) :
     Type 0 where
   pub arrives_is : arrives ≡ arrival.Lost
   pub same : h ≡ g
-  pub flight : behind.trip.flight ≡ None
-  pub keeps : behind.kept ≡ kept
-  pub log_is : behind.trip.log ≡ log ++ turned_entries k own.log
-  pub crossings : behind.trip.crossings ≡ own.crossings
+  pub flight : past_all.trip.flight ≡ None
+  pub keeps : past_all.kept ≡ kept
+  pub log_is : past_all.trip.log ≡ log ++ turned_entries k own.log
+  pub crossings : past_all.trip.crossings ≡ own.crossings
   pub held : own.held ≡ None
 
-pub record SomeCame (k : ℕ) (log : List Entry) (kept : Option Flight) (b : BooksView) (g h : GuestState) (behind : LedTrip) (arrives : Arrival)
+pub record SomeCame (k : ℕ) (log : List Entry) (kept : Option Flight) (b : BooksView) (g h : GuestState) (past_all : ControlledTrip) (arrives : Arrival)
     (own : BooksView) : Type 0 where
   pub at : Flight
   pub within : at.source < k
@@ -153,12 +153,12 @@ pub record SomeCame (k : ℕ) (log : List Entry) (kept : Option Flight) (b : Boo
   pub takes : GuestTakes g at.now out h
   pub count : ℕ
   pub entries : List Entry
-  pub behind_is : behind ≡ led_answers count (log ++ turned_entries k entries) k (turned_flight k at) kept out
+  pub past_all_is : past_all ≡ controlled_answers count (log ++ turned_entries k entries) k (turned_flight k at) kept out
   pub own_is : own ≡ comes (record b { crossings = count; log = entries }) at (at.source == 0) (is_data at.now)
 
 -- A round of the lent ring r, which begins with this frame at the host: it is first one of the ring of the devices before the second
 -- controller, with that one in the host's place, which then answers; and what goes out comes home.
-pub record Halves {M : Type 0} (view : M → MediumView) (r : RingView M) (held : Option Flight) (f : Flight) (answer : Arrival) (s : RingView M) : Type 0 where
+pub record HalvesOfRound {M : Type 0} (view : M → MediumView) (r : RingView M) (held : Option Flight) (f : Flight) (answer : Arrival) (s : RingView M) : Type 0 where
   pub boxed : List DeviceState
   pub boxed_then : List DeviceState
   pub g : GuestState
@@ -173,9 +173,9 @@ pub record Halves {M : Type 0} (view : M → MediumView) (r : RingView M) (held 
   pub own : BooksView
   pub its_round :
       Round view (ring_before_last boxed (books_anew held r.books) r) held f arrives (ring_before_last boxed_then own s)
-  pub behind : LedTrip
+  pub past_all : ControlledTrip
   pub came :
-      NothingCame (length (devices_of r)) r.books.log r.books.kept g h behind arrives own
-      ⊎ SomeCame (length (devices_of r)) r.books.log r.books.kept (books_anew held r.books) g h behind arrives own
-  pub books : s.books ≡ led_home (is_leading h.control) (length (devices_of r)) (books_led r.books behind) behind.trip.flight
-  pub answer_is : answer ≡ arrived (arriving r.books.plan behind.trip.crossings behind.trip.flight)
+      NothingCame (length (devices_of r)) r.books.log r.books.kept g h past_all arrives own
+      ⊎ SomeCame (length (devices_of r)) r.books.log r.books.kept (books_anew held r.books) g h past_all arrives own
+  pub books : s.books ≡ controlled_home (is_leading h.control) (length (devices_of r)) (books_controlled r.books past_all) past_all.trip.flight
+  pub answer_is : answer ≡ arrived (arriving r.books.plan past_all.trip.crossings past_all.trip.flight)

@@ -13,9 +13,9 @@ use il_frames::{Entry, Frame};
 use std::alloc::{AllocError, Global};
 use std::marker::Model;
 
-/// How many links a frame crosses at most behind the first: HP-IL has 30 addresses, and the last link leads to the
+/// How many links a frame crosses at most after the first: HP-IL has 30 addresses, and the last link leads to the
 /// host.
-const MOST_BEHIND: u64 = 30;
+const MOST_AFTER: u64 = 30;
 
 /// What a ring keeps beside its devices: the planned faults, the count of crossings, the log in the
 /// room that was reserved for it, and the frame that is held at the host.
@@ -27,12 +27,12 @@ pub(crate) struct Books {
     begun: u64,
     /// How many of the planned faults lie at the crossings that were counted.
     passed: usize,
-    /// A round that begins before so many crossings meets nothing planned.
+    /// A round that begins before this many crossings reaches nothing planned.
     clear_before: u64,
     log: Vec<Entry>,
     room: usize,
     held: Option<Flight>,
-    /// The frame that stands at the host while the ring is lent.
+    /// The frame that is at the host while the ring is lent.
     lent: Option<Flight>,
     /// The data or end frame that the second controller keeps while its NRD is on its way.
     kept: Option<Flight>,
@@ -86,7 +86,7 @@ impl Books {
         &self.log
     }
 
-    /// Empties the log, which begins here where no frame stands anywhere.
+    /// Empties the log, which begins here if no frame is held anywhere.
     pub fn clear_log(&mut self)
         ensures { self.new ≡ books_emptied self.old }
     {
@@ -136,7 +136,7 @@ impl Books {
         self.note(flight.ended_at(party));
     }
 
-    /// The same. It stands apart, so that the way of a frame that is passed on stays short.
+    /// Does the same as `finish`. It is not inlined, so that the path of a frame that is passed on stays short.
     #[inline(never)]
     pub fn finish_apart(&mut self, flight: Flight, party: u8)
         requires { length self.old.log < self.old.room }
@@ -145,23 +145,23 @@ impl Books {
         self.note(flight.ended_at(party));
     }
 
-    /// The frame crosses the link to a party. `None` where it is lost there, which its entry says.
+    /// The frame crosses the link to a party. `None` if it is lost there, which its entry says.
     pub fn cross(&mut self, flight: Flight, party: u8) -> Option<Flight>
         requires { length self.old.log < self.old.room }
-        ensures behind { result ≡ hit (next_fault self.old.plan self.old.crossings) flight }
+        ensures after { result ≡ hit (next_fault self.old.plan self.old.crossings) flight }
         ensures passed { OnSome result (self.new ≡ record self.old { crossings = risen self.old.crossings }) }
         ensures lost { IfNone result (self.new ≡ record self.old { crossings = risen self.old.crossings; log = self.old.log ++ lost_at flight party ∷ [] }) }
     {
-        let behind = flight.struck(self.count_crossing());
+        let after = flight.struck(self.count_crossing());
         self.look_ahead();
-        if behind.is_none() {
+        if after.is_none() {
             self.note(flight.lost_at(party));
         }
-        behind
+        after
     }
 
-    /// Counts the next crossing, and tells what is planned there. The plan rises, so one planned
-    /// fault alone is looked at. Behind the greatest count nothing is counted or planned.
+    /// Counts the next crossing, and returns what is planned there. The plan rises, so one planned
+    /// fault alone is looked at. After the greatest count nothing is counted or planned.
     fn count_crossing(&mut self) -> Option<PlanFault>
         ensures planned { result ≡ next_fault self.old.plan self.old.crossings }
         ensures counted { self.new ≡ record self.old { crossings = risen self.old.crossings } }
@@ -182,13 +182,13 @@ impl Books {
         self.clear_before = self.last_clear();
     }
 
-    /// Before so many crossings a round meets nothing that is planned and still to come.
+    /// The count of crossings before which a round reaches nothing that is planned and still to come.
     fn last_clear(&self) -> u64
         ensures { IsClearBefore self.now.plan self.now.crossings result }
     {
         match self.plan.get(self.passed) {
             Some(planned) => rounds_before(planned.hop),
-            None => u64::MAX - MOST_BEHIND,
+            None => u64::MAX - MOST_AFTER,
         }
     }
 
@@ -221,7 +221,7 @@ impl Books {
         append(&mut self.log, entry);
     }
 
-    /// What comes to the host over the last link. `None` where the frame was lost before or is lost
+    /// What comes to the host over the last link. `None` if the frame was lost before or is lost
     /// there.
     fn cross_last(&mut self, flight: Option<Flight>) -> Option<Flight>
         requires { IfSome flight (λ f. length self.old.log < self.old.room) }
@@ -238,7 +238,7 @@ impl Books {
     }
 
     /// The frame crosses the last link and comes to the host: its own ends there, a data or end
-    /// frame of a device is held there, and any other frame of a device is taken. Where it is lost
+    /// frame of a device is held there, and any other frame of a device is taken. If it is lost
     /// nothing is held any more.
     pub fn home(&mut self, flight: Option<Flight>) -> Arrival
         requires { IfSome flight (λ f. length self.old.log < self.old.room) }
@@ -253,7 +253,7 @@ impl Books {
         Arrival::Frame(flight.now)
     }
 
-    /// The same where a frame comes to the last link, and nothing is planned there.
+    /// Does the same as `home` if a frame comes to the last link, and nothing is planned there.
     #[inline(always)]
     pub fn home_clear(&mut self, flight: Flight) -> Arrival
         requires room { length self.old.log < self.old.room }
@@ -266,7 +266,7 @@ impl Books {
         Arrival::Frame(flight.now)
     }
 
-    /// The same, but the frame that is held then is returned, and the one that was held before is dropped.
+    /// Does the same, but returns the frame that is held then, and drops the one that was held before.
     #[inline(always)]
     pub fn come_clear(&mut self, flight: Flight) -> Standing
         requires room { length self.old.log < self.old.room }
@@ -321,14 +321,14 @@ impl Books {
         }
     }
 
-    /// The frame that stands at the host while the ring is lent.
+    /// The frame that is at the host while the ring is lent.
     pub fn lent(&self) -> Option<Flight>
         ensures { result ≡ self.now.lent }
     {
         self.lent
     }
 
-    /// The same, which stands there no more.
+    /// Takes the frame that is at the host while the ring is lent, which is there no longer.
     pub fn take_lent(&mut self) -> Option<Flight>
         ensures value { result ≡ self.old.lent }
         ensures gone { self.new ≡ record self.old { lent = None } }
@@ -351,7 +351,7 @@ impl Books {
         self.kept.take()
     }
 
-    /// The ring is lent no more: the frame that stands at the host ends there, and before it the one
+    /// The ring is lent no more: the frame that is at the host ends there, and before it the one
     /// that the second controller, this party, keeps.
     pub fn end_lending(&mut self, party: u8)
         requires { length self.old.log + 1 < self.old.room }
@@ -366,7 +366,7 @@ impl Books {
     }
 
     /// The same as `home` while a second controller, this party, controls: what comes to the host
-    /// stands there. Where it is lost the ring is lent no more.
+    /// is there. If it is lost the ring is lent no more.
     pub fn lent_home(&mut self, flight: Option<Flight>, party: u8) -> Arrival
         requires { length self.old.log + 1 < self.old.room }
         ensures books { self.new ≡ lent_home party self.old flight }
@@ -381,8 +381,7 @@ impl Books {
         Arrival::Frame(flight.now)
     }
 
-    /// Nothing came home: what the second controller keeps was taken there before the last frame
-    /// ended.
+    /// The last frame was lost: logs the frame that the second controller withholds directly before it.
     fn lose_lent(&mut self, party: u8)
         requires { length self.old.log < self.old.room }
         ensures { self.new ≡ lent_lost party self.old }
@@ -409,12 +408,12 @@ impl Books {
     }
 }
 
-/// Before so many crossings a round ends before this one.
+/// The count of crossings before which a round ends before the crossing `hop`.
 fn rounds_before(hop: u64) -> u64
     ensures before { 0 < result → result + 31 ≡ hop }
     ensures counted { result + 31 < 2 ^ 64 }
 {
-    hop.saturating_sub(1 + MOST_BEHIND)
+    hop.saturating_sub(1 + MOST_AFTER)
 }
 
 /// With room an append takes no memory, and cannot fail.

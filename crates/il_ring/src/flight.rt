@@ -51,7 +51,7 @@ impl Flight {
         }
     }
 
-    /// The frame behind a link where this is planned. `None` where it is lost.
+    /// The frame after a link if this is planned. `None` if it is lost.
     pub(crate) fn struck(self, fault: Option<PlanFault>) -> Option<Flight>
         ensures { result ≡ hit fault self }
     {
@@ -62,7 +62,7 @@ impl Flight {
         }
     }
 
-    /// The same with another byte, where it can be altered.
+    /// The same with another byte, if it can be altered.
     fn altered_by(self, change: u8) -> Option<Flight>
         ensures { result ≡ hit (Some (Alter change)) self }
     {
@@ -76,7 +76,7 @@ impl Flight {
         })
     }
 
-    /// Its entry where it did not reach a party.
+    /// Its entry if it did not reach a party.
     pub(crate) fn lost_at(self, party: u8) -> Entry
         ensures { result ≡ lost_at self party }
     {
@@ -87,7 +87,7 @@ impl Flight {
         }
     }
 
-    /// Its entry where it ended at a party: it came back to its source, or another took it.
+    /// Its entry if it ended at a party: it came back to its source, or another took it.
     #[inline(always)]
     pub(crate) fn ended_at(self, party: u8) -> Entry
         ensures { result ≡ ended_at self party }

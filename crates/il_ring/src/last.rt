@@ -3,7 +3,7 @@ ghost use Rattle.il_guest.specs.State.{IsGuest};
 ghost use Rattle.il_ring.specs.Books.{KeepsBooks};
 ghost use Rattle.il_ring.specs.Guests.{guest_mind, guest_devices, MayBeGuest};
 ghost use Rattle.il_ring.specs.Journeys.{trip_of};
-ghost use Rattle.il_ring.specs.Lending.{LastPassage, GuestReaches, leads, led, led_answers};
+ghost use Rattle.il_ring.specs.Lending.{LastPassage, GuestReaches, leads, controlled, controlled_answers};
 ghost use Rattle.il_ring.specs.Rings.{paper_of};
 
 use crate::books::Books;
@@ -11,7 +11,7 @@ use crate::flight::Flight;
 use il_guest::{Guest, GuestOut};
 use std::marker::Model;
 
-/// The last party of a ring, where a second controller stands there.
+/// The last party of a ring, if a second controller is there.
 #[derive(Drop)]
 pub(crate) struct Last {
     guest: Option<Guest>,
@@ -66,7 +66,7 @@ impl Last {
         }
     }
 
-    /// Its paper, as `paper_in` tells that of other devices: it keeps its rules, and so is no printer.
+    /// Its paper: always `None`, since a second controller is never a printer.
     pub fn paper(&self) -> Option<(&[u8], u64)>
         ensures { option_map (λ p. (p.0.now, p.1)) result ≡ paper_of (guest_devices self.now) }
     {
@@ -74,7 +74,7 @@ impl Last {
         None
     }
 
-    /// The second controller is handed back.
+    /// Returns the second controller.
     pub fn into_guest(self) -> Option<Guest>
         ensures { result ≡ self }
     {
@@ -85,7 +85,7 @@ impl Last {
     pub fn pass(&mut self, party: u8, books: &mut Books, flight: Option<Flight>) -> Option<Flight>
         requires { length books.old.log < books.old.room }
         ensures passage { LastPassage books.old.plan party (trip_of books.old flight) books.old.kept self.old
-            (led (trip_of books.new result) books.new.kept) self.new }
+            (controlled (trip_of books.new result) books.new.kept) self.new }
         ensures count { length (guest_devices self.new) ≡ length (guest_devices self.old) }
         ensures books { KeepsBooks 1 (record books.old { kept = books.new.kept }) books.new }
     {
@@ -96,7 +96,7 @@ impl Last {
     }
 }
 
-/// A frame crosses a link and is taken by the second controller behind it, or it is lost.
+/// A frame crosses a link and is taken by the second controller after it, or it is lost.
 fn pass_guest(
     guest: &mut Guest,
     party: u8,
@@ -106,20 +106,20 @@ fn pass_guest(
     requires room { length books.old.log < books.old.room }
     requires guest { IsGuest guest.old }
     ensures passage { GuestReaches books.old.plan party (trip_of books.old flight) books.old.kept flight guest.old
-        (led (trip_of books.new result) books.new.kept) guest.new }
+        (controlled (trip_of books.new result) books.new.kept) guest.new }
     ensures guest { IsGuest guest.new }
     ensures books { KeepsBooks 1 (record books.old { kept = books.new.kept }) books.new }
 {
     let flight = books.cross(flight?, party)?;
     let out = guest.take(flight.now);
-    go_on_led(books, flight, party, out)
+    go_on_controlled(books, flight, party, out)
 }
 
-/// What goes on behind a second controller that has answered.
-fn go_on_led(books: &mut Books, flight: Flight, party: u8, out: GuestOut) -> Option<Flight>
+/// What goes on after a second controller that has answered.
+fn go_on_controlled(books: &mut Books, flight: Flight, party: u8, out: GuestOut) -> Option<Flight>
     requires { length books.old.log < books.old.room }
-    ensures trip { led (trip_of books.new result) books.new.kept
-        ≡ led_answers books.old.crossings books.old.log party flight books.old.kept out }
+    ensures trip { controlled (trip_of books.new result) books.new.kept
+        ≡ controlled_answers books.old.crossings books.old.log party flight books.old.kept out }
     ensures books { KeepsBooks 1 (record books.old { kept = books.new.kept }) books.new }
 {
     match out {

@@ -10,11 +10,11 @@ use il_ports::Medium;
 /// The accessory ID of the HP 82161A, which no device beside the drive may have.
 const DRIVE_ID: u8 = 16;
 
-/// How many devices may stand beside the drive: HP-IL has 30 addresses.
+/// How many devices may be beside the drive: HP-IL has 30 addresses.
 const MOST_BESIDE: usize = 29;
 
-/// What a ring is made of. The drive, over the medium, stands between `before` and `after`. The
-/// parties are counted from the host's output: the first device of `before` is party 1, and where
+/// What a ring is made of. The drive, over the medium, is between `before` and `after`. The
+/// parties are counted from the host's output: the first device of `before` is party 1, and if
 /// `before` is empty the drive is.
 #[derive(Drop)]
 pub struct Rig<M: Medium> {
@@ -24,11 +24,11 @@ pub struct Rig<M: Medium> {
     pub before: Vec<Box<dyn Device>>,
     /// The devices between the drive and the host's input.
     pub after: Vec<Box<dyn Device>>,
-    /// A second controller, which stands last, behind `after`.
+    /// A second controller, which is last, after `after`.
     pub guest: Option<Guest>,
 }
 
-/// Want of memory, with the rig that was handed in.
+/// Memory is lacking; with the rig that was given.
 #[derive(Drop)]
 pub struct Refused<M: Medium> {
     /// The rig as it was.
@@ -36,7 +36,7 @@ pub struct Refused<M: Medium> {
 }
 
 impl<M: Medium> Rig<M> {
-    /// Whether it makes a ring that nothing has come to yet: at most 29 devices stand beside the
+    /// Whether it makes a ring that nothing has come to yet: at most 29 devices are beside the
     /// drive, a second controller among them, since HP-IL has the addresses 1 to 30; none of them has
     /// an address, a role, a place in a parallel poll or a frame of its own on the loop; none of the
     /// boxed ones has the accessory ID 16, which is the drive's; and a second controller does not
@@ -55,7 +55,7 @@ impl<M: Medium> Rig<M> {
         self.boxes_fit() && is_idle_guest(&self.guest)
     }
 
-    /// Whether the boxed devices are few enough, and may stand there.
+    /// Whether the boxed devices are few enough, and may be there.
     fn boxes_fit(&self) -> bool
         ensures exact { IsTrue result ↔ ((length self.now.before.items + length self.now.after.items + length (guest_devices self.now.guest) ≤ 29)
             × All (λ b. IsNewcomer (state b)) self.now.before.items
@@ -72,7 +72,7 @@ impl<M: Medium> Rig<M> {
     }
 }
 
-/// How many boxed devices may stand beside the drive and a second controller, where there is one.
+/// How many boxed devices may be beside the drive and a second controller, if there is one.
 fn most_boxed(guest: &Option<Guest>) -> usize
     ensures { result + length (guest_devices guest.now) ≡ 29 }
 {
@@ -82,7 +82,7 @@ fn most_boxed(guest: &Option<Guest>) -> usize
     }
 }
 
-/// Whether a second controller is idle, where there is one.
+/// Whether a second controller is idle, if there is one.
 fn is_idle_guest(guest: &Option<Guest>) -> bool
     ensures exact { IsTrue result ↔ IsIdleGuest guest.now }
     ensures stands { IsTrue result → MayBeGuest guest.now }
@@ -93,7 +93,7 @@ fn is_idle_guest(guest: &Option<Guest>) -> bool
     }
 }
 
-/// Whether a device may stand beside the drive on a new ring.
+/// Whether a device may be beside the drive on a new ring.
 fn may_stand<D: Device>(device: &D) -> bool
     ensures exact { IsTrue result ↔ IsNewcomer (D.state device.now) }
     ensures stands { IsTrue result → MayStand (D.state device.now) }

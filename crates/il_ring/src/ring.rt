@@ -13,14 +13,14 @@ ghost use Rattle.il_ring.specs.Books.{IsClear};
 ghost use Rattle.il_ring.specs.Flights.{sourced};
 ghost use Rattle.il_ring.specs.Rings.{RingView, IsRing, Round, devices_of, roles_of, drive_party, spare_of, fresh_books, ring_emptied, with_held, paper_of};
 ghost use Rattle.il_ring.specs.Guests.{guest_devices, guest_mind, MayBeGuest, StandsLast, IsUnderHost};
-ghost use Rattle.il_ring.specs.Lending.{HostKeeps, IsLed, LedRound, StandsNow, TakenBack};
+ghost use Rattle.il_ring.specs.Lending.{HostKeeps, IsControlled, ControlledRound, StandsNow, TakesBack};
 ghost use Rattle.il_ring.specs.Lending.{going_on, hands_over, leads, about_to_send};
 ghost use Rattle.il_guest.specs.Frames.{tct};
 ghost use Rattle.il_ring.specs.HandedOver.{HandLost, HandedOver};
-ghost use Rattle.il_ring.specs.LedAdds.{IsUnderWay, LedAdds};
+ghost use Rattle.il_ring.specs.ControlledAdds.{IsUnderWay, ControlledAdds};
 ghost use Rattle.il_ring.specs.Lists.{AllSilent, NoneSends};
 ghost use Rattle.il_ring.specs.declared.flight.Flight.{Flight};
-ghost use Rattle.il_ring.specs.Turned.{Halves, turned_flight};
+ghost use Rattle.il_ring.specs.Turned.{HalvesOfRound, turned_flight};
 ghost use Rattle.il_ring.specs.Rounded.{Rounded, IsReady};
 ghost use Rattle.il_ring.specs.Outcomes.{Returned, WasLost, DataReturned, DataBroken, StartReturned, StartGone, StartTaken, AllKeep, IsTalking, StoodSo, Relayed};
 
@@ -82,7 +82,7 @@ impl<M: Medium> Parts<M> {
 }
 
 /// The simulated loop: the host, the drive over its medium, the devices beside it, the plan and the
-/// log. It takes memory in `new` alone. Its parts stand in a box, so that a ring is moved at the cost of a pointer.
+/// log. It takes memory in `new` alone. Its parts are in a box, so that a ring is moved at the cost of a pointer.
 #[derive(Drop)]
 pub struct Ring<M: Medium> {
     pub(crate) parts: Box<Parts<M>>,
@@ -96,11 +96,11 @@ impl<M: Medium> Seen<M> for Ring<M> {
 
 impl<M: Medium> Ring<M> {
     /// A ring of these devices, with room for `room` entries in its log. The drive is new; the
-    /// others are as they come, and nothing has come to them where `Rig::fits` says so. A tape is
-    /// in, at most 29 devices stand beside the drive, a second controller among them, which does not
+    /// others are as they come, and nothing has come to them if `Rig::fits` says so. A tape is
+    /// in, at most 29 devices are beside the drive, a second controller among them, which does not
     /// control the loop, and `is_plan` holds of the plan.
     ///
-    /// The only error is want of memory, and it hands the rig back.
+    /// The only error is that memory is lacking; it returns the rig.
     pub fn new(
         alloc: Global,
         rig: Rig<M>,
@@ -146,7 +146,7 @@ impl<M: Medium> Ring<M> {
         }
     }
 
-    /// The data or end frame of a device that is held at the host, as it came. `None` where none
+    /// The data or end frame of a device that is held at the host, as it came. `None` if none
     /// is.
     pub fn held(&self) -> Option<Frame>
         ensures { result ≡ option_map (λ f. f.now) (⟦<Ring<M> as Seen<M>>⟧.seen self.now).books.held }
@@ -168,7 +168,7 @@ impl<M: Medium> Ring<M> {
         self.parts.books.log()
     }
 
-    /// Empties the log. The count of crossings and the held frame stay. The log begins here, where no frame is held.
+    /// Empties the log. The count of crossings and the held frame stay. The log begins here, if no frame is held.
     pub fn clear_log(&mut self)
         ensures { ⟦<Ring<M> as Seen<M>>⟧.seen self.new ≡ ring_emptied (⟦<Ring<M> as Seen<M>>⟧.seen self.old) }
     {
@@ -176,7 +176,7 @@ impl<M: Medium> Ring<M> {
     }
 
     /// How many crossings of links there were since the ring was made. The count stays at its
-    /// greatest value, and no fault acts at the crossings behind it.
+    /// greatest value, and no fault acts at the crossings after it.
     pub fn crossings(&self) -> u64
         ensures { result ≡ (⟦<Ring<M> as Seen<M>>⟧.seen self.now).books.crossings }
     {
@@ -211,7 +211,7 @@ impl<M: Medium> Ring<M> {
 
     /// The paper of the first printer, counted from the host's output: the first bytes that it
     /// heard, as far as it keeps them, and how many it heard, a count that stays at its greatest
-    /// value. `None` where no device has the accessory ID 32 of a printer.
+    /// value. `None` if no device has the accessory ID 32 of a printer.
     pub fn paper(&self) -> Option<(&[u8], u64)>
         ensures { option_map (λ p. (p.0.now, p.1)) result ≡ paper_of ((⟦<Ring<M> as Seen<M>>⟧.seen self.now).before ++ (⟦<Ring<M> as Seen<M>>⟧.seen self.now).after) }
     {
@@ -221,7 +221,7 @@ impl<M: Medium> Ring<M> {
             .or(boxes.last.paper())
     }
 
-    /// The second controller, which stands last on the loop.
+    /// The second controller, which is last on the loop.
     pub fn guest(&self) -> Option<&Guest>
         ensures mind { guest_mind (option_map (λ g. g.now) result) ≡ (⟦<Ring<M> as Seen<M>>⟧.seen self.now).guest }
         ensures device { StandsLast (option_map (λ g. g.now) result) (⟦<Ring<M> as Seen<M>>⟧.seen self.now).after }
@@ -240,16 +240,16 @@ impl<M: Medium> Ring<M> {
     }
 
     /// The host sends a frame, which goes round the loop. What arrives at the host: the frame as it
-    /// came back; or one that a device sent in its place, which is held where it is a data or end
-    /// frame; or `Lost`, exactly where a planned fault lost the frame that was on its way. What was
-    /// held before is held on where the frame came back, and else dropped.
+    /// came back; or one that a device sent in its place, which is held if it is a data or end
+    /// frame; or `Lost`, if and only if a planned fault lost the frame that was on its way. What was
+    /// held before is held on if the frame came back, and else dropped.
     ///
     /// The log has room for 32 more entries, and no frame is held, or the frame is NRD, which goes
     /// ahead of the held one.
     ///
-    /// Where a second controller talks, TCT lends the ring to it: what then arrives is the frame that
-    /// it sends, or `Lost`. While it controls, also where it fell silent and the ring is lent no more,
-    /// the host sends nothing but IFC. What stands at the host then ends there, and the ring is lent
+    /// If a second controller talks, TCT lends the ring to it: what then arrives is the frame that
+    /// it sends, or `Lost`. While it controls, also if it fell silent and the ring is lent no more,
+    /// the host sends nothing but IFC. What is at the host then ends there, and the ring is lent
     /// no more.
     pub fn send(&mut self, frame: Frame) -> Arrival
         requires room { 32 ≤ spare_of (⟦<Ring<M> as Seen<M>>⟧.seen self.old) }
@@ -257,7 +257,7 @@ impl<M: Medium> Ring<M> {
         requires leads { IsUnderHost (⟦<Ring<M> as Seen<M>>⟧.seen self.old).guest ⊎ (frame ≡ ifc) }
         ensures round { HostKeeps (⟦<Ring<M> as Seen<M>>⟧.seen self.old) frame →
             Round M.view (⟦<Ring<M> as Seen<M>>⟧.seen self.old) (⟦<Ring<M> as Seen<M>>⟧.seen self.old).books.held (sourced 0 frame) result (⟦<Ring<M> as Seen<M>>⟧.seen self.new) }
-        // The entries tell how many links were crossed, and how many frames came to each device.
+        // The entries show how many links were crossed, and how many frames came to each device.
         ensures counts { HostKeeps (⟦<Ring<M> as Seen<M>>⟧.seen self.old) frame →
             Rounded (⟦<Ring<M> as Seen<M>>⟧.seen self.old) (⟦<Ring<M> as Seen<M>>⟧.seen self.old).books.held (sourced 0 frame) result (⟦<Ring<M> as Seen<M>>⟧.seen self.new) }
         // A command or ready message comes back as it was, or is lost exactly at a planned hop.
@@ -265,8 +265,8 @@ impl<M: Medium> Ring<M> {
             IsRing (⟦<Ring<M> as Seen<M>>⟧.seen self.old) → is_plain (message_of frame) ≡ true →
             Returned (⟦<Ring<M> as Seen<M>>⟧.seen self.old) (⟦<Ring<M> as Seen<M>>⟧.seen self.old).books.held frame frame result (⟦<Ring<M> as Seen<M>>⟧.seen self.new)
             ⊎ WasLost (⟦<Ring<M> as Seen<M>>⟧.seen self.old) 0 frame result (⟦<Ring<M> as Seen<M>>⟧.seen self.new) }
-        // Where no device talks, a data or end frame comes back the same apart from the service bit
-        // exactly where no planned hop is met; each listener hears its byte.
+        // If no device talks, a data or end frame comes back the same apart from the service bit
+        // if and only if no planned hop is reached; each listener hears its byte.
         ensures data { HostKeeps (⟦<Ring<M> as Seen<M>>⟧.seen self.old) frame →
             IsRing (⟦<Ring<M> as Seen<M>>⟧.seen self.old) → is_data frame ≡ true → AllSilent (devices_of (⟦<Ring<M> as Seen<M>>⟧.seen self.old)) →
             DataReturned (⟦<Ring<M> as Seen<M>>⟧.seen self.old) (⟦<Ring<M> as Seen<M>>⟧.seen self.old).books.held frame result (⟦<Ring<M> as Seen<M>>⟧.seen self.new)
@@ -281,34 +281,34 @@ impl<M: Medium> Ring<M> {
         // No device hears anything that does not listen.
         ensures kept { HostKeeps (⟦<Ring<M> as Seen<M>>⟧.seen self.old) frame →
             AllKeep (devices_of (⟦<Ring<M> as Seen<M>>⟧.seen self.old)) (devices_of (⟦<Ring<M> as Seen<M>>⟧.seen self.new)) }
-        // TCT lends the ring where it comes to a second controller that talks.
+        // TCT lends the ring if it comes to a second controller that talks.
         ensures handed { IsUnderHost (⟦<Ring<M> as Seen<M>>⟧.seen self.old).guest →
             hands_over (⟦<Ring<M> as Seen<M>>⟧.seen self.old) frame ≡ true
-            → LedRound M.view (⟦<Ring<M> as Seen<M>>⟧.seen self.old) (sourced 0 frame) result (⟦<Ring<M> as Seen<M>>⟧.seen self.new) }
+            → ControlledRound M.view (⟦<Ring<M> as Seen<M>>⟧.seen self.old) (sourced 0 frame) result (⟦<Ring<M> as Seen<M>>⟧.seen self.new) }
         ensures lent { IsRing (⟦<Ring<M> as Seen<M>>⟧.seen self.old) → IsUnderHost (⟦<Ring<M> as Seen<M>>⟧.seen self.old).guest →
             hands_over (⟦<Ring<M> as Seen<M>>⟧.seen self.old) frame ≡ true
             → (IsRing (⟦<Ring<M> as Seen<M>>⟧.seen self.new) × IsUnderHost (⟦<Ring<M> as Seen<M>>⟧.seen self.new).guest)
-            ⊎ (IsLed (⟦<Ring<M> as Seen<M>>⟧.seen self.new) × StandsNow result (⟦<Ring<M> as Seen<M>>⟧.seen self.new).books.lent) }
+            ⊎ (IsControlled (⟦<Ring<M> as Seen<M>>⟧.seen self.new) × StandsNow result (⟦<Ring<M> as Seen<M>>⟧.seen self.new).books.lent) }
         // It was lost before that one, and the host controls still; or that one took it, and the first frame of its
-        // rounds stands at the host, or was lost on the last link.
+        // rounds is at the host, or was lost on the last link.
         ensures over { IsRing (⟦<Ring<M> as Seen<M>>⟧.seen self.old) → IsUnderHost (⟦<Ring<M> as Seen<M>>⟧.seen self.old).guest →
             frame ≡ tct → hands_over (⟦<Ring<M> as Seen<M>>⟧.seen self.old) tct ≡ true
             → HandLost (⟦<Ring<M> as Seen<M>>⟧.seen self.old) result (⟦<Ring<M> as Seen<M>>⟧.seen self.new)
             ⊎ HandedOver (⟦<Ring<M> as Seen<M>>⟧.seen self.old) result (⟦<Ring<M> as Seen<M>>⟧.seen self.new) }
         // IFC takes control back from a second controller.
         ensures taken_back { leads (⟦<Ring<M> as Seen<M>>⟧.seen self.old).guest ≡ true →
-            TakenBack M.view (⟦<Ring<M> as Seen<M>>⟧.seen self.old) frame result (⟦<Ring<M> as Seen<M>>⟧.seen self.new) }
-        ensures back { IsLed (⟦<Ring<M> as Seen<M>>⟧.seen self.old) →
+            TakesBack M.view (⟦<Ring<M> as Seen<M>>⟧.seen self.old) frame result (⟦<Ring<M> as Seen<M>>⟧.seen self.new) }
+        ensures back { IsControlled (⟦<Ring<M> as Seen<M>>⟧.seen self.old) →
             (IsRing (⟦<Ring<M> as Seen<M>>⟧.seen self.new) × IsUnderHost (⟦<Ring<M> as Seen<M>>⟧.seen self.new).guest)
-            ⊎ (IsLed (⟦<Ring<M> as Seen<M>>⟧.seen self.new) × (result ≡ arrival.Lost) × ((⟦<Ring<M> as Seen<M>>⟧.seen self.new).books.lent ≡ None)) }
+            ⊎ (IsControlled (⟦<Ring<M> as Seen<M>>⟧.seen self.new) × (result ≡ arrival.Lost) × ((⟦<Ring<M> as Seen<M>>⟧.seen self.new).books.lent ≡ None)) }
     {
         self.end_lending();
         self.round(Flight::sourced(0, frame))
     }
 
-    /// The same, if the host controls the loop and no frame is held. If nothing is planned, the frame takes a fast
-    /// path, which is inlined for the bytes of a record: the flight is not written to memory, and no lending is looked
-    /// for.
+    /// Does the same as `send`, if the host controls the loop and no frame is held. If nothing is planned, the frame
+    /// takes a fast path, which is inlined for the bytes of a record: the flight is not written to memory, and no
+    /// lending is looked for.
     #[inline(always)]
     pub fn send_soon(&mut self, frame: Frame) -> Arrival
         requires room { 32 ≤ spare_of (⟦<Ring<M> as Seen<M>>⟧.seen self.old) }
@@ -324,7 +324,7 @@ impl<M: Medium> Ring<M> {
         }
     }
 
-    /// Where a second controller controls, what was lent ends.
+    /// If a second controller controls, what was lent ends.
     fn end_lending(&mut self)
         requires { 2 ≤ spare_of (⟦<Ring<M> as Seen<M>>⟧.seen self.old) }
         ensures { ⟦<Ring<M> as Seen<M>>⟧.seen self.new ≡ about_to_send (⟦<Ring<M> as Seen<M>>⟧.seen self.old) }
@@ -335,7 +335,7 @@ impl<M: Medium> Ring<M> {
         }
     }
 
-    /// Whether the ring is lent to the second controller: a frame stands at the host, which `pass`
+    /// Whether the ring is lent to the second controller: a frame is at the host, which `pass`
     /// sends on.
     pub fn is_lent(&self) -> bool
         ensures { result ≡ is_some (⟦<Ring<M> as Seen<M>>⟧.seen self.now).books.lent }
@@ -343,8 +343,8 @@ impl<M: Medium> Ring<M> {
         self.parts.books.lent().is_some()
     }
 
-    /// While the ring is lent, the frame that stands at the host goes on round the loop. What arrives
-    /// at the host, and stands there then: what the second controller sends; or `Lost`, exactly where
+    /// While the ring is lent, the frame that is at the host goes on round the loop. What arrives
+    /// at the host, and is there then: what the second controller sends; or `Lost`, if and only if
     /// a planned fault lost the frame that was on its way or the second controller fell silent. The
     /// ring is then lent no more.
     ///
@@ -352,29 +352,29 @@ impl<M: Medium> Ring<M> {
     pub fn pass(&mut self) -> Arrival
         requires lent { IsSome (⟦<Ring<M> as Seen<M>>⟧.seen self.old).books.lent }
         requires room { 32 ≤ spare_of (⟦<Ring<M> as Seen<M>>⟧.seen self.old) }
-        // Where the second controller stands in its rounds tells which frame stands at the host.
-        ensures led { IsLed (⟦<Ring<M> as Seen<M>>⟧.seen self.old) →
-            IsLed (⟦<Ring<M> as Seen<M>>⟧.seen self.new) × StandsNow result (⟦<Ring<M> as Seen<M>>⟧.seen self.new).books.lent }
+        // The place of the second controller in its rounds shows which frame is at the host.
+        ensures controlled { IsControlled (⟦<Ring<M> as Seen<M>>⟧.seen self.old) →
+            IsControlled (⟦<Ring<M> as Seen<M>>⟧.seen self.new) × StandsNow result (⟦<Ring<M> as Seen<M>>⟧.seen self.new).books.lent }
         ensures round { IfSome (⟦<Ring<M> as Seen<M>>⟧.seen self.old).books.lent (λ f.
-            LedRound M.view (going_on (⟦<Ring<M> as Seen<M>>⟧.seen self.old)) f result (⟦<Ring<M> as Seen<M>>⟧.seen self.new)) }
+            ControlledRound M.view (going_on (⟦<Ring<M> as Seen<M>>⟧.seen self.old)) f result (⟦<Ring<M> as Seen<M>>⟧.seen self.new)) }
         // As the second controller sees it, it is the host of the ring of the devices before it: so the frame goes
         // round that ring, as one of the host's, and what it then sends comes to the host.
-        ensures halves { IsLed (⟦<Ring<M> as Seen<M>>⟧.seen self.old) → (held : Option Flight) → (f : Flight) →
+        ensures halves { IsControlled (⟦<Ring<M> as Seen<M>>⟧.seen self.old) → (held : Option Flight) → (f : Flight) →
             (⟦<Ring<M> as Seen<M>>⟧.seen self.old).books.lent ≡ Some (turned_flight (length (devices_of (⟦<Ring<M> as Seen<M>>⟧.seen self.old))) f)
             → f.source < length (devices_of (⟦<Ring<M> as Seen<M>>⟧.seen self.old))
-            → Halves M.view (going_on (⟦<Ring<M> as Seen<M>>⟧.seen self.old)) held f result (⟦<Ring<M> as Seen<M>>⟧.seen self.new) }
-        // Where the source of each data frame that is under way awaits it, the entries tell how many links were
+            → HalvesOfRound M.view (going_on (⟦<Ring<M> as Seen<M>>⟧.seen self.old)) held f result (⟦<Ring<M> as Seen<M>>⟧.seen self.new) }
+        // If the source of each data frame that is under way awaits it, the entries show how many links were
         // crossed, how many frames came to each device, and the roles; and each command is the second controller's.
-        ensures counts { IsLed (⟦<Ring<M> as Seen<M>>⟧.seen self.old) → (f : Flight) → IsUnderWay (⟦<Ring<M> as Seen<M>>⟧.seen self.old) f →
-            LedAdds (⟦<Ring<M> as Seen<M>>⟧.seen self.old) (⟦<Ring<M> as Seen<M>>⟧.seen self.new) }
+        ensures counts { IsControlled (⟦<Ring<M> as Seen<M>>⟧.seen self.old) → (f : Flight) → IsUnderWay (⟦<Ring<M> as Seen<M>>⟧.seen self.old) f →
+            ControlledAdds (⟦<Ring<M> as Seen<M>>⟧.seen self.old) (⟦<Ring<M> as Seen<M>>⟧.seen self.new) }
     {
         let flight = self.parts.books.take_lent().unwrap();
         self.round(flight)
     }
 
     /// The held frame goes on from the host to its source. What arrives at the host: what the
-    /// source sent behind it, which is held where it is a data or end frame, or `Lost`, exactly
-    /// where a planned fault lost the frame that was on its way.
+    /// source sent after it, which is held if it is a data or end frame, or `Lost`, if and only
+    /// if a planned fault lost the frame that was on its way.
     ///
     /// A frame is held, and the log has room for 32 more entries.
     pub fn relay(&mut self) -> Arrival
@@ -382,13 +382,13 @@ impl<M: Medium> Ring<M> {
         requires room { 32 ≤ spare_of (⟦<Ring<M> as Seen<M>>⟧.seen self.old) }
         ensures round { IsUnderHost (⟦<Ring<M> as Seen<M>>⟧.seen self.old).guest →
             IfSome (⟦<Ring<M> as Seen<M>>⟧.seen self.old).books.held (λ f. Round M.view (⟦<Ring<M> as Seen<M>>⟧.seen self.old) None f result (⟦<Ring<M> as Seen<M>>⟧.seen self.new)) }
-        // Where its source is the one device that talks and has it on the loop, it comes back to it,
+        // If its source is the one device that talks and has it on the loop, it comes back to it,
         // which sends a further data frame, ETO or ETE; or it is lost at a planned hop.
         ensures relayed { IsUnderHost (⟦<Ring<M> as Seen<M>>⟧.seen self.old).guest →
             IsRing (⟦<Ring<M> as Seen<M>>⟧.seen self.old) → IfSome (⟦<Ring<M> as Seen<M>>⟧.seen self.old).books.held
             (λ f. (own : OwnFrame) → IsTalking f.source (Some own) (devices_of (⟦<Ring<M> as Seen<M>>⟧.seen self.old)) → own.frame ≡ f.sent → StoodSo f
             → Relayed (⟦<Ring<M> as Seen<M>>⟧.seen self.old) f own result (⟦<Ring<M> as Seen<M>>⟧.seen self.new)) }
-        // Where its source has an own frame on the loop, the entries tell how many links were crossed, and how many
+        // If its source has an own frame on the loop, the entries show how many links were crossed, and how many
         // frames came to each device.
         ensures counts { IsUnderHost (⟦<Ring<M> as Seen<M>>⟧.seen self.old).guest →
             IfSome (⟦<Ring<M> as Seen<M>>⟧.seen self.old).books.held (λ f. IsReady f (devices_of (⟦<Ring<M> as Seen<M>>⟧.seen self.old))
@@ -401,13 +401,13 @@ impl<M: Medium> Ring<M> {
         self.round(flight)
     }
 
-    /// A frame goes round. Behind the two entries of a lending that ended this is IFC, which takes no
-    /// more than one. The way of a frame that meets nothing planned and no second controller is short.
+    /// A frame goes round. If a lending has just ended, two of the 32 entries are used; the frame is then IFC,
+    /// which adds at most one. A frame that reaches nothing planned and no second controller takes a fast path.
     #[inline(always)]
     fn round(&mut self, flight: Flight) -> Arrival
         requires room { (32 ≤ spare_of (⟦<Ring<M> as Seen<M>>⟧.seen self.old))
             ⊎ ((30 ≤ spare_of (⟦<Ring<M> as Seen<M>>⟧.seen self.old)) × (flight ≡ sourced 0 ifc)) }
-        ensures { LedRound M.view (⟦<Ring<M> as Seen<M>>⟧.seen self.old) flight result (⟦<Ring<M> as Seen<M>>⟧.seen self.new) }
+        ensures { ControlledRound M.view (⟦<Ring<M> as Seen<M>>⟧.seen self.old) flight result (⟦<Ring<M> as Seen<M>>⟧.seen self.new) }
     {
         if self.is_clear() {
             self.round_clear(flight)
@@ -418,7 +418,7 @@ impl<M: Medium> Ring<M> {
         }
     }
 
-    /// Whether a frame that goes round meets nothing planned, and no second controller.
+    /// Whether a frame that goes round reaches nothing planned, and no second controller.
     #[inline(always)]
     fn is_clear(&self) -> bool
         ensures way { result ≡ true → IsClear (⟦<Ring<M> as Seen<M>>⟧.seen self.now).books.plan (⟦<Ring<M> as Seen<M>>⟧.seen self.now).books.crossings 31 }
@@ -427,14 +427,14 @@ impl<M: Medium> Ring<M> {
         self.parts.books.is_clear() && self.parts.boxes.last.count() == 0
     }
 
-    /// A frame that meets nothing planned, and no second controller, goes round.
+    /// A frame that reaches nothing planned, and no second controller, goes round.
     #[inline(always)]
     fn round_clear(&mut self, flight: Flight) -> Arrival
         requires room { (32 ≤ spare_of (⟦<Ring<M> as Seen<M>>⟧.seen self.old))
             ⊎ ((30 ≤ spare_of (⟦<Ring<M> as Seen<M>>⟧.seen self.old)) × (flight ≡ sourced 0 ifc)) }
         requires way { IsClear (⟦<Ring<M> as Seen<M>>⟧.seen self.old).books.plan (⟦<Ring<M> as Seen<M>>⟧.seen self.old).books.crossings 31 }
         requires alone { (⟦<Ring<M> as Seen<M>>⟧.seen self.old).guest ≡ None }
-        ensures { LedRound M.view (⟦<Ring<M> as Seen<M>>⟧.seen self.old) flight result (⟦<Ring<M> as Seen<M>>⟧.seen self.new) }
+        ensures { ControlledRound M.view (⟦<Ring<M> as Seen<M>>⟧.seen self.old) flight result (⟦<Ring<M> as Seen<M>>⟧.seen self.new) }
     {
         let party = self.party();
         let Parts {
@@ -453,7 +453,7 @@ impl<M: Medium> Ring<M> {
     #[inline(always)]
     pub(crate) fn round_on(&mut self, flight: Flight) -> Came
         requires room { 32 ≤ spare_of (⟦<Ring<M> as Seen<M>>⟧.seen self.old) }
-        ensures { LedRound M.view (with_held (⟦<Ring<M> as Seen<M>>⟧.seen self.old) None) flight result.arrival (with_held (⟦<Ring<M> as Seen<M>>⟧.seen self.new) result.standing) }
+        ensures { ControlledRound M.view (with_held (⟦<Ring<M> as Seen<M>>⟧.seen self.old) None) flight result.arrival (with_held (⟦<Ring<M> as Seen<M>>⟧.seen self.new) result.standing) }
     {
         if self.is_clear() {
             self.round_on_clear(flight)
@@ -464,13 +464,13 @@ impl<M: Medium> Ring<M> {
         }
     }
 
-    /// The same, if nothing is planned and there is no second controller.
+    /// Does the same as `round_on`, if nothing is planned and there is no second controller.
     #[inline(always)]
     fn round_on_clear(&mut self, flight: Flight) -> Came
         requires room { 32 ≤ spare_of (⟦<Ring<M> as Seen<M>>⟧.seen self.old) }
         requires way { IsClear (⟦<Ring<M> as Seen<M>>⟧.seen self.old).books.plan (⟦<Ring<M> as Seen<M>>⟧.seen self.old).books.crossings 31 }
         requires alone { (⟦<Ring<M> as Seen<M>>⟧.seen self.old).guest ≡ None }
-        ensures { LedRound M.view (with_held (⟦<Ring<M> as Seen<M>>⟧.seen self.old) None) flight result.arrival (with_held (⟦<Ring<M> as Seen<M>>⟧.seen self.new) result.standing) }
+        ensures { ControlledRound M.view (with_held (⟦<Ring<M> as Seen<M>>⟧.seen self.old) None) flight result.arrival (with_held (⟦<Ring<M> as Seen<M>>⟧.seen self.new) result.standing) }
     {
         let party = self.party();
         let Parts {
@@ -487,11 +487,11 @@ impl<M: Medium> Ring<M> {
         }
     }
 
-    /// The same in every case.
+    /// Does the same as `round_on` in every case.
     #[inline(never)]
     fn round_on_apart(&mut self, flight: Flight) -> Came
         requires room { 32 ≤ spare_of (⟦<Ring<M> as Seen<M>>⟧.seen self.old) }
-        ensures { LedRound M.view (with_held (⟦<Ring<M> as Seen<M>>⟧.seen self.old) None) flight result.arrival (with_held (⟦<Ring<M> as Seen<M>>⟧.seen self.new) result.standing) }
+        ensures { ControlledRound M.view (with_held (⟦<Ring<M> as Seen<M>>⟧.seen self.old) None) flight result.arrival (with_held (⟦<Ring<M> as Seen<M>>⟧.seen self.new) result.standing) }
     {
         self.parts.books.take_held();
         let arrival = self.round_apart(flight);
@@ -501,12 +501,12 @@ impl<M: Medium> Ring<M> {
         }
     }
 
-    /// A frame goes round, whatever it meets.
+    /// A frame goes round, whatever it reaches.
     #[inline(never)]
     fn round_apart(&mut self, flight: Flight) -> Arrival
         requires room { (32 ≤ spare_of (⟦<Ring<M> as Seen<M>>⟧.seen self.old))
             ⊎ ((30 ≤ spare_of (⟦<Ring<M> as Seen<M>>⟧.seen self.old)) × (flight ≡ sourced 0 ifc)) }
-        ensures { LedRound M.view (⟦<Ring<M> as Seen<M>>⟧.seen self.old) flight result (⟦<Ring<M> as Seen<M>>⟧.seen self.new) }
+        ensures { ControlledRound M.view (⟦<Ring<M> as Seen<M>>⟧.seen self.old) flight result (⟦<Ring<M> as Seen<M>>⟧.seen self.new) }
     {
         let party = self.party();
         let Parts {

@@ -37,7 +37,7 @@ impl<'r, M: Medium> Running<'r, M> {
         Running { ring, standing }
     }
 
-    /// The data or end frame of a device that is held at the host, as it came. `None` where none is.
+    /// The data or end frame of a device that is held at the host, as it came. `None` if none is.
     #[inline(always)]
     pub fn held(&self) -> Option<Frame>
         ensures { result ≡ option_map (λ f. f.now) (⟦<Running<'r, M> as Seen<M>>⟧.seen self.now).books.held }

@@ -9,7 +9,7 @@ use il_device::{Device, Out};
 use il_drive::Drive;
 use il_ports::Medium;
 
-/// A frame crosses a link and is taken by the device behind it, or it is lost.
+/// A frame crosses a link and is taken by the device after it, or it is lost.
 fn pass<D: Device>(
     device: &mut D,
     party: u8,
@@ -25,7 +25,7 @@ fn pass<D: Device>(
     Some(go_on(books, flight, party, out))
 }
 
-/// The same at the drive.
+/// A frame crosses the link to the drive, which takes it, or it is lost.
 pub(crate) fn pass_drive<M: Medium>(
     drive: &mut Drive<M>,
     party: u8,
@@ -41,7 +41,7 @@ pub(crate) fn pass_drive<M: Medium>(
     Some(go_on(books, flight, party, out))
 }
 
-/// What goes on behind a party that has answered.
+/// What goes on after a party that has answered.
 #[inline(always)]
 pub(crate) fn go_on(books: &mut Books, flight: Flight, party: u8, out: Out) -> Flight
     requires { length books.old.log < books.old.room }
@@ -81,7 +81,7 @@ fn walk<D: Device>(
     on
 }
 
-/// The same of a list.
+/// Does the same as `walk` for a list.
 pub(crate) fn walk_past<D: Device>(
     devices: &mut Vec<D>,
     first: u8,
@@ -97,13 +97,13 @@ pub(crate) fn walk_past<D: Device>(
     walk(devices, first, books, flight)
 }
 
-// ---- where nothing is planned
+// ---- if nothing is planned
 
-// Here a flight goes to each hop by value and comes back by value. Behind a `&mut` it would stand in memory, where
+// Here a flight goes to each hop by value and comes back by value. After a `&mut` it would be in memory, where
 // each hop writes its frame and the next reads it by another width, which the processor cannot forward: see
 // `Flight::again`.
 
-/// A frame crosses a link at which nothing is planned, and is taken by the device behind it.
+/// A frame crosses a link at which nothing is planned, and is taken by the device after it.
 #[inline(always)]
 fn pass_clear<D: Device>(device: &mut D, party: u8, books: &mut Books, flight: Flight) -> Flight
     requires room { length books.old.log < books.old.room }
@@ -117,7 +117,7 @@ fn pass_clear<D: Device>(device: &mut D, party: u8, books: &mut Books, flight: F
     go_on_clear(books, flight, party, out)
 }
 
-/// The same at the drive.
+/// A frame crosses the link to the drive, at which nothing is planned, and the drive takes it.
 #[inline(always)]
 pub(crate) fn pass_drive_clear<M: Medium>(
     drive: &mut Drive<M>,
@@ -133,29 +133,11 @@ pub(crate) fn pass_drive_clear<M: Medium>(
 {
     books.cross_clear();
     let out = drive.take(flight.now);
-    go_on_behind(books, flight, party, out)
+    // The drive often sends a frame of its own, so `finish` is inlined here.
+    go_on(books, flight, party, out)
 }
 
-/// What goes on behind the drive, which mostly sends where it does not listen.
-#[inline(always)]
-fn go_on_behind(books: &mut Books, flight: Flight, party: u8, out: Out) -> Flight
-    requires { length books.old.log < books.old.room }
-    ensures trip { trip_of books.new (Some result) ≡ answered books.old.crossings books.old.log party flight out }
-    ensures books { KeepsBooks 1 books.old books.new }
-{
-    match out {
-        Out::Pass(frame) => Flight {
-            now: frame,
-            ..flight
-        },
-        Out::Source(frame) => {
-            books.finish(flight, party);
-            Flight::sourced(party, frame)
-        }
-    }
-}
-
-/// What goes on behind another party, which seldom sends.
+/// What goes on after another party, which seldom sends.
 #[inline(always)]
 fn go_on_clear(books: &mut Books, flight: Flight, party: u8, out: Out) -> Flight
     requires { length books.old.log < books.old.room }
@@ -168,7 +150,7 @@ fn go_on_clear(books: &mut Books, flight: Flight, party: u8, out: Out) -> Flight
             ..flight
         },
         Out::Source(frame) => {
-            // A copy: what a call that is not inlined gets has an address, so that `flight` itself would stand in
+            // A copy: what a call that is not inlined gets has an address, so that `flight` itself would be in
             // memory on the whole way.
             let ended = flight;
             books.finish_apart(ended, party);
@@ -196,7 +178,7 @@ fn walk_clear<D: Device>(devices: &mut [D], first: u8, books: &mut Books, flight
     on
 }
 
-/// The same of a list.
+/// Does the same as `walk_clear` for a list.
 #[inline(always)]
 pub(crate) fn walk_past_clear<D: Device>(
     devices: &mut Vec<D>,

@@ -217,7 +217,7 @@ fn a_lend_is_read_up_to_take_control(rt: HostRuntime) -> Result<(), Fail> {
     says_with(&rt, alloc, two, refused, tenth)
 }
 
-/// A check of this byte and a long line behind it ends with this status and this output.
+/// A check of this byte and a long line after it ends with this status and this output.
 fn says_of_a_long_line(
     rt: &impl Abort,
     alloc: Global,

@@ -77,7 +77,7 @@ impl<'a> Change<'a> {
         Ok((self.listed_behind(b"", &left.output), left.status))
     }
 
-    /// Whether it is made behind a fault or a stop within that write, which leaves these bytes in its record.
+    /// Whether it is made after a fault or a stop within that write, which leaves these bytes in its record.
     fn is_made(&self, write: usize, torn: &[u8; 256]) -> bool {
         self.making < write || (write == self.making && torn.starts_with(OPEN_GATE))
     }
@@ -289,7 +289,7 @@ fn each_read_of_a_change_fails(rt: HostRuntime) -> Result<(), Fail> {
     batch_on(&second).has_reads(&rt, alloc, 3)
 }
 
-/// The image as it was behind the first writes, with these bytes in the record of the next.
+/// The image as it was after the first writes, with these bytes in the record of the next.
 pub(crate) fn stopped_at(
     alloc: Global,
     tape: &[u8],

@@ -17,7 +17,7 @@ pub const END_ENTRY: &[u8] =
 /// How an open gate of a redo file begins.
 pub const OPEN_GATE: &[u8] = b"LIFREDO1 OPEN   ";
 
-/// The entry of a file A of one record, the first behind the directory.
+/// The entry of a file A of one record, the first after the directory.
 pub const FILE_ENTRY: &[u8] = b"A         \0\x01\0\0\0\x04\0\0\0\x01\0\0\0\0\0\0\x80\x01\0\0\0\0";
 
 /// The entry of such a redo file while a file in the first slot is being moved, of which one record stands at its new
@@ -111,7 +111,7 @@ pub(crate) fn with_redo_of_header(alloc: Global, header: &[u8]) -> Result<Vec<u8
     Ok(image)
 }
 
-/// A volume of another make, with one program and this entry behind it, or none, and no redo file.
+/// A volume of another make, with one program and this entry after it, or none, and no redo file.
 pub(crate) fn foreign_with(alloc: Global, entry: &[u8]) -> Result<Vec<u8>, AllocError> {
     let mut image = image_of(
         alloc,
@@ -123,7 +123,7 @@ pub(crate) fn foreign_with(alloc: Global, entry: &[u8]) -> Result<Vec<u8>, Alloc
     Ok(image)
 }
 
-/// A formatted volume with a redo file that puts the file A into the directory: behind a gate that begins so, with so
+/// A formatted volume with a redo file that puts the file A into the directory: after a gate that begins so, with so
 /// many targets.
 pub(crate) fn with_redo(alloc: Global, gate: &[u8], targets: u8) -> Result<Vec<u8>, AllocError> {
     let mut image = image_of(

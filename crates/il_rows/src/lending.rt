@@ -133,7 +133,7 @@ const BATCH: usize = 5;
 
 const PACK: usize = 7;
 
-/// A tape that takes batches, with files B and C behind one record of a purged file.
+/// A tape that takes batches, with files B and C after one record of a purged file.
 fn before(alloc: Global) -> Result<Vec<u8>, Fail> {
     let tape = formatted(alloc)?;
     let script =
@@ -468,7 +468,7 @@ fn frames_lost_in_the_second_third(rt: HostRuntime) -> Result<(), Fail> {
 
 #[test]
 fn frames_lost_in_the_last_third(rt: HostRuntime) -> Result<(), Fail> {
-    // The last of these losses would be behind the day.
+    // The last of these losses would be after the day.
     days_feel(&rt, rt.alloc(), LOSSES, (600, 900), 299)
 }
 
@@ -479,7 +479,7 @@ fn bytes_altered_in_the_first_half(rt: HostRuntime) -> Result<(), Fail> {
 
 #[test]
 fn bytes_altered_in_the_second_half(rt: HostRuntime) -> Result<(), Fail> {
-    // The last of these alterations would be behind the day.
+    // The last of these alterations would be after the day.
     days_feel(&rt, rt.alloc(), ALTERATIONS, (222, 444), 221)
 }
 

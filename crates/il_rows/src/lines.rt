@@ -6,7 +6,7 @@ use std::alloc::{AllocError, Global};
 /// The listing of a formatted volume.
 pub const LISTED: &[u8] = b"volume HPTAPE 2 2 1 16\nfile REDOFILE E0D0 508 4 00000000\nok\n";
 
-/// These parts, one behind the other.
+/// These parts, one after the other.
 pub(crate) fn joined(alloc: Global, parts: &[&[u8]]) -> Result<Vec<u8>, AllocError> {
     let mut text = Vec::new(alloc);
     for part in parts {

@@ -24,7 +24,7 @@ fn push_records(text: &mut Vec<u8>, count: u8) -> Result<(), AllocError> {
     Ok(())
 }
 
-/// A tape with a file B of so many records after one record of a purged file, and a file C behind it.
+/// A tape with a file B of so many records after one record of a purged file, and a file C after it.
 fn with_gap(alloc: Global, count: u8) -> Result<Vec<u8>, Fail> {
     let tape = formatted(alloc)?;
     let mut script = Vec::from_slice(

@@ -15,7 +15,7 @@ use std::alloc::{AllocError, Global};
 use std::process::Abort;
 use std::test::Fail;
 
-/// What is on the loop behind the drive.
+/// What is on the loop after the drive.
 #[derive(Clone, Copy)]
 pub enum Behind {
     Nothing,
@@ -58,7 +58,7 @@ pub struct Left {
     pub image: Option<Vec<u8>>,
     /// The writes, each a record and its bytes.
     pub writes: Vec<(u16, [u8; 256])>,
-    /// How many frames the device behind the drive took.
+    /// How many frames the device after the drive took.
     pub frames: Option<u64>,
     /// The last address that the second controller asks, and whether it is idle.
     pub guest: Option<(u8, bool)>,
@@ -77,7 +77,7 @@ impl Left {
 }
 
 impl<'a> Given<'a> {
-    /// A quiet run of a script over an image, without a fault, with a printer behind the drive and a second controller.
+    /// A quiet run of a script over an image, without a fault, with a printer after the drive and a second controller.
     pub(crate) fn script(image: &'a [u8], script: &'a [u8]) -> Given<'a> {
         Given {
             words: "--quiet TAPE",

@@ -1,4 +1,4 @@
-//! What the commands of a volume answer, one behind the other.
+//! What the commands of a volume answer, one after the other.
 
 use crate::images::{END_ENTRY, REDO_ENTRY, foreign_with, formatted, on_a_disc, with_redo};
 use crate::lines::{LISTED, joined, repeated};
@@ -153,7 +153,7 @@ fn a_file_in_the_way_is_in_use(rt: HostRuntime) -> Result<(), Fail> {
     )
 }
 
-/// The lines that store files F1, F2 and so on up to this digit, of one byte each, and these behind them.
+/// The lines that store files F1, F2 and so on up to this digit, of one byte each, and these after them.
 fn numbered_files(alloc: Global, last: u8, end: &[u8]) -> Result<Vec<u8>, AllocError> {
     let mut script = Vec::new(alloc);
     for number in b'1'..=last {
@@ -207,7 +207,7 @@ fn the_redo_entry_moves_behind_new_files(rt: HostRuntime) -> Result<(), Fail> {
     for old in [0, 0x33] {
         let six = joined(alloc, &[REDO_ENTRY, END_ENTRY])?;
         leaves_slots(&rt, alloc, (b'6', old), SIX_FILES, 6, &six)?;
-        // The slot behind the redo entry ends the directory, and its other bytes stay.
+        // The slot after the redo entry ends the directory, and its other bytes stay.
         let (front, back) = ([old; 10], [old; 20]);
         let seven = joined(alloc, &[REDO_ENTRY, &front, b"\xFF\xFF", &back])?;
         leaves_slots(&rt, alloc, (b'7', old), SEVEN_FILES, 7, &seven)?;

@@ -2,7 +2,7 @@
 use Rattle.std.proofs.Common.{◌≡◌, ℕ, ◌==◌, Bool, true, false, cond, List, [], ◌∷◌, ◌++◌, refl, sym, ap, ap₂, ◌∙◌, append-nil}
 use Rattle.il_script.specs.LineCut.{LineCut, HasNoFeed, byte_before, cut_before, line_cut}
 
--- one line_cut behind another
+-- one line_cut after another
 abbrev pub joined : LineCut → List (List ℕ) → List ℕ → LineCut
 joined c [] rest = record { whole = c.whole; open_line = c.open_line ++ rest }
 joined c (line ∷ lines) rest = record { whole = c.whole ++ ((c.open_line ++ line) ∷ lines); open_line = rest }

@@ -1,4 +1,4 @@
--- Digits that are written into the places behind a text.
+-- Digits that are written into the places after a text.
 use Rattle.std.proofs.Common.{◌≡◌, ℕ, Bool, true, false, ◌-◌, ◌≤◌, List, [], ◌++◌, length, take, drop, if◌then◌else◌, refl, ap, ◌∙◌, arith}
 use Rattle.std.proofs.Math.Seq.{take-append_seam, take-length}
 use Rattle.std.proofs.lemmas.List.{append-nil, drop_all, length-drop, take_all, length-append}

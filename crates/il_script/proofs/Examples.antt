@@ -27,7 +27,7 @@ cut_lines = refl
 lines : lines_of (codes "dir" ++ 10 ∷ 10 ∷ codes "list") ≡ codes "dir" ∷ [] ∷ codes "list" ∷ []
 lines = refl
 
--- behind the last line feed there is no line
+-- after the last line feed there is no line
 lines_ended : lines_of (codes "dir" ++ 10 ∷ []) ≡ codes "dir" ∷ []
 lines_ended = refl
 

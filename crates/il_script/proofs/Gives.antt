@@ -67,7 +67,7 @@ line_told-long line text e t =
 
 -- ---- steps
 
--- the bytes behind, one piece later
+-- the bytes after, one piece later
 behind-moves : (script behind held rest moved more : List ℕ) → script ≡ behind ++ (held ++ rest) → held ≡ moved ++ more
     → script ≡ (behind ++ moved) ++ (more ++ rest)
 behind-moves script behind held rest moved more h e =

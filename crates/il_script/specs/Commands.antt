@@ -36,7 +36,7 @@ new_name_of_bytes bytes = option_and_then new_name (name_of_bytes bytes)
 abbrev pub spelt_as : {X : Type 0} → (List ℕ → Option X) → List ℕ → Option (Option X)
 spelt_as rule text = option_map rule (spelt text)
 
--- ---- the forms, by the parts behind the first word
+-- ---- the forms, by the parts after the first word
 
 -- a name that is the only part
 abbrev pub name_of_part : List (List ℕ) → Result Name LineFault

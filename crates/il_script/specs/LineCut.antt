@@ -2,7 +2,7 @@
 use Rattle.std.specs.Prelude.{◌≡◌, ℕ, List, [], ◌∷◌, ◌++◌, length, Option, Some, None, if◌then◌else◌, nat_le, ◌==◌}
 use Rattle.il_script.specs.declared.limits.TheConstants.{LONGEST_LINE}
 
--- the lines that end with a line feed, without it, and what stands behind the last of them
+-- the lines that end with a line feed, without it, and what comes after the last of them
 pub record LineCut : Type 0 where
   pub whole : List (List ℕ)
   pub open_line : List ℕ
@@ -20,7 +20,7 @@ abbrev pub line_cut : List ℕ → LineCut
 line_cut [] = record { whole = []; open_line = [] }
 line_cut (x ∷ xs) = cut_before x (line_cut xs)
 
--- what stands behind the last line feed is a line, unless it is empty
+-- what comes after the last line feed is a line, unless it is empty
 abbrev pub rest_line : List ℕ → List (List ℕ)
 rest_line [] = []
 rest_line (x ∷ xs) = (x ∷ xs) ∷ []

@@ -12,7 +12,7 @@ is_space x = x == 32
 abbrev pub is_dark : ℕ → Bool
 is_dark x = not (x == 32)
 
--- what stands before the first space, and the words behind it
+-- what stands before the first space, and the words after it
 pub record WordCut : Type 0 where
   pub first : List ℕ
   pub more : List (List ℕ)

@@ -19,7 +19,7 @@ pub enum Line {
     Text,
     /// The end of a line that has more bytes than a line may have.
     TooLong,
-    /// The end of the script, behind its last line.
+    /// The end of the script, after its last line.
     End,
     /// The source failed. The next turn goes on with the same line.
     Fault,

@@ -30,7 +30,7 @@ fn reach(line: &[u8]) -> usize
     memchr(b' ', line).unwrap_or(line.len())
 }
 
-/// The first word, or an empty one where there is none, and what stands behind it.
+/// The first word, or an empty one where there is none, and what comes after it.
 pub fn next_word(line: &[u8]) -> (&[u8], &[u8])
     ensures words { IsNext line.now result.0.now result.1.now }
     ensures word { length result.0.now ≤ length line.now }

@@ -12,7 +12,7 @@ use Rattle.il_ring.specs.declared.plan.Planned.{Planned}
 use Rattle.il_words.specs.declared.faults.FaultList.{FaultList}
 use Rattle.il_words.specs.Faults.{item_in, joined, all_in, few_in, list_in}
 
--- more faults, behind those that were read
+-- more faults, after those that were read
 abbrev pub behind : List Planned → Option (List Planned) → Option (List Planned)
 behind faults more = option_map (λ new. faults ++ new) more
 
@@ -90,7 +90,7 @@ left-more option list faults cutting next item fault left step e few = go left.i
           read = sym (first_good option faults first items fault (ap (item_in option) (sym same) ∙ e) few) ∙ read;
         }
 
--- behind the last item
+-- after the last item
 pub left-end : (option : FaultList) (list : List ℕ) (faults : List Planned) (cutting next : Split ℕ) → IsLeft option list faults cutting → Cuts cutting None next → Some faults ≡ list_in option list
 left-end option list faults cutting next left step = go left.items left.yields left.read
   where

@@ -21,7 +21,7 @@ at_place fault (first ∷ plan) = go (nat_lt first.hop fault.hop) (at_place faul
         ap (λ l. first ∷ l) h ∙ ap (λ k. insert (first ∷ plan) k fault) next
     go false h = refl
 
--- a fault is put behind those of smaller crossings
+-- a fault is put after those of smaller crossings
 pub in_order-insert : (fault : Planned) (plan : List Planned) (at : ℕ) → at ≡ length (take_while (is_before fault.hop) plan) → insert plan at fault ≡ in_order fault plan
 in_order-insert fault plan at e =
     ap (λ k. insert plan k fault) (e ∙ length-prefix_len (is_before fault.hop) plan) ∙ sym (at_place fault plan)

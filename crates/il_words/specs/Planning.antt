@@ -9,7 +9,7 @@ use Rattle.il_words.specs.Faults.{list_if}
 abbrev pub is_named : ℕ → List Planned → Bool
 is_named hop plan = list_any (λ planned. planned.hop == hop) plan
 
--- one more fault, behind those of smaller crossings
+-- one more fault, after those of smaller crossings
 abbrev pub in_order : Planned → List Planned → List Planned
 in_order fault [] = fault ∷ []
 in_order fault (first ∷ plan) = if nat_lt first.hop fault.hop then first ∷ in_order fault plan else fault ∷ first ∷ plan

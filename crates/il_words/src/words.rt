@@ -42,7 +42,7 @@ pub enum WordsFault {
     OutOfMemory,
 }
 
-/// Reads the words behind the program's name. `Refused` comes exactly where the command does not take them, a value is
+/// Reads the words after the program's name. `Refused` comes exactly where the command does not take them, a value is
 /// not in its grammar, a crossing is named twice, or both a tape and a disc are to be made.
 pub fn read_words<'a>(alloc: Global, words: &'a [String]) -> Result<Words<'a>, WordsFault>
     ensures read { IfOk result (λ w. words_in (map string_bytes words.entry.now) ≡ Some (asked_by w)) }

@@ -49,7 +49,7 @@ b_entry = record {
 abbrev a_entry : FileEntry
 a_entry = record b_entry { name = record { bytes = a_name } }
 
--- slot 0 alone; slot 1, and an end behind it; slots 0 and 1, and an end behind them
+-- slot 0 alone; slot 1, and an end after it; slots 0 and 1, and an end after them
 abbrev alone : Change
 alone = record { version = One; slot = 0; entry = b_entry; next = None; ended = false }
 
@@ -65,7 +65,7 @@ places = (refl, refl, refl, refl, refl)
 not_places : (slot_after both ≢ 1) × (after_next 7 (Some b_entry) ≢ 8)
 not_places = ((λ is. absurd (omega (arith, is))), (λ is. absurd (omega (arith, is))))
 
--- in the last slot without an end, and behind the last slot with one
+-- in the last slot without an end, and after the last slot with one
 fits : FitsIn 1 1 alone × FitsIn 3 1 last × FitsIn 3 1 both
 fits = (
   record { place = omega arith; one = omega arith; within = omega arith; kind = λ is. absurd (omega (arith, is)); next = tt; end_within = λ on. cc; end_past = λ on. cc; end_there = λ more room. absurd (omega (arith, more)) },
@@ -73,7 +73,7 @@ fits = (
   record { place = omega arith; one = omega arith; within = omega arith; kind = λ is. absurd (omega (arith, is)); next = (omega arith, (λ is. absurd (omega (arith, is)))); end_within = λ on. omega arith; end_past = λ on. omega arith; end_there = λ more room. refl },
 )
 
--- not past the place behind the last slot, not two behind it, where the end has no slot, where it is a slot of those before, or with an
+-- not past the place after the last slot, not two after it, where the end has no slot, where it is a slot of those before, or with an
 -- entry that is an end
 not_fits : (FitsIn 16 0 last → ⊥) × (FitsIn 16 0 both → ⊥) × (FitsIn 2 1 last → ⊥) × (FitsIn 16 2 last → ⊥) × (FitsIn 16 1 (record alone { entry = record b_entry { kind = 0xFFFF } }) → ⊥)
 not_fits = ((λ fits. absurd (omega (arith, fits.place))), (λ fits. absurd (omega (arith, fits.one))), (λ fits. absurd (omega (arith, fits.end_within refl))), (λ fits. absurd (omega (arith, fits.end_past refl))), (λ fits. fits.kind refl))
@@ -86,7 +86,7 @@ old_bytes = replicate 32 7
 abbrev tape : Tape
 tape = base.tape_with (a_file ++ base.end_entry ++ old_bytes)
 
--- the slot behind the end keeps its bytes but for the type
+-- the slot after the end keeps its bytes but for the type
 abbrev ended_bytes : List ℕ
 ended_bytes = replicate 10 7 ++ 0xFF ∷ 0xFF ∷ replicate 20 7
 
@@ -247,7 +247,7 @@ not_holds is = let byte : 65 ≡ 66 = ap (λ (e : List ℕ). get_or e 0 0) (is.e
 abbrev content : List ℕ
 content = base.filled (b_file ++ base.end_entry ++ old_bytes)
 
--- with slot 0 changed: the redo file keeps the target and the content behind a gate of zeros
+-- with slot 0 changed: the redo file keeps the target and the content after a gate of zeros
 abbrev new : Tape
 new = base.header ∷ base.blank ∷ content ∷ base.blank ∷ base.blank ∷ base.blank ∷ base.blank ∷ base.blank
     ∷ base.blank ∷ base.filled (codes "LIFREDO1" ++ 0 ∷ 1 ∷ 0 ∷ 2 ∷ []) ∷ content ∷ base.blank ∷ []

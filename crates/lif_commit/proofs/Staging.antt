@@ -236,7 +236,7 @@ pub ended_too : (start k : ℕ) (change : Change) (x : Tape) → k ≡ slot_afte
 ended_too start k change x at on = (λ i. entry_writes change ++ (at i, with_type 0xFFFF (entry_from x start (at i))) ∷ [])
     ∙ (λ i. entry_writes change ++ end_write (sym on i) start (slot_after change) x)
 
--- the end is put behind the entries
+-- the end is put after the entries
 pub entries_are_before : (start limit : ℕ) (change : Change) → LiesBelow start limit change → length (entry_bytes change.entry) ≡ 32 → IfSome change.next (λ e. length (entry_bytes e) ≡ 32)
     → AreBefore (8 * (limit - start)) (slot_after change) (entry_writes change)
 entries_are_before start limit change below one two = by change.next below.next two
@@ -246,7 +246,7 @@ entries_are_before start limit change below one two = by change.next below.next 
     by None lt more = (omega (arith, below.slot), omega arith, one, tt)
     by (Some e) lt more = (omega (arith, below.slot), omega arith, one, (omega (arith, lt), omega arith, more, tt))
 
--- and all of it before the place behind the end
+-- and all of it before the place after the end
 pub change_is_before : (start limit : ℕ) (change : Change) (t : Tape) → IsTape limit t → LiesBelow start limit change
     → AreBefore (8 * (limit - start)) (slot_after change) (entry_writes change) → AreBefore (8 * (limit - start)) (suc (slot_after change)) (change_writes start change t)
 change_is_before start limit change t is below entries =

@@ -105,14 +105,14 @@ pub record StagesAll {S : Type 0} (start slots : ℕ) (changes : List Change) (v
 -- Slots of a settled directory, which begins at record `start`, change by one commit of that version.
 pub record CommitsSlots {S T : Type 0} (calls : ℕ) (version : Version) (start : ℕ) (slots : Tape → SlotWrites) (v w : RecordsView S) (answer : Result T Trouble) : Type 0 where
   pub goes_on : GoesOn calls v w answer
-  -- behind an Ok they stand
+  -- after an Ok they stand
   pub done : OnOk answer ((t : Tape) → v.tape ≡ Some t
       → (u : Tape) × (w.tape ≡ Some u) × IsCommitted version (changes_by start (slots t) t) t u)
   -- a stop at any moment leaves the old directory or the new one, and so does a trouble
   pub any_moment : (t : Tape) → v.tape ≡ Some t → RunLeaves v w (IsOldOrNew version (changes_by start (slots t) t) t)
   pub after : (t : Tape) → v.tape ≡ Some t
       → (u : Tape) × (w.tape ≡ Some u) × IsOldOrNew version (changes_by start (slots t) t) t u
-  -- behind an Ok these are the writes, in order
+  -- after an Ok these are the writes, in order
   pub writes : OnOk answer ((t : Tape) → v.tape ≡ Some t
       → AddsWrites (commit_writes version v.record_count (has_open_gate t) (changes_by start (slots t) t)) v.transferred w.transferred)
 

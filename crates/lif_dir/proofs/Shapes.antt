@@ -33,7 +33,7 @@ other_slots room x xs are = (
   },
 )
 
--- slots behind slots
+-- slots after slots
 joined : (a b : ℕ) (xs ys : List (List ℕ)) → AreSlots a xs → AreSlots b ys → AreSlots (length xs + b) (xs ++ ys)
 joined a b [] ys first second = more_room b (0 + b) ys (omega arith) second
 joined a b (x ∷ xs) ys first second = let of = other_slots a x xs first in

@@ -121,7 +121,7 @@ slots_end t bytes n zero within e h = absurd (omega arith)
 slots_end t bytes n (suc m) within e h =
     ap (λ r. before_end (entries_of r ++ entries_from t (suc n) m)) (sym e) ∙ end_in (entries_of bytes) (entries_from t (suc n) m) h
 
--- it goes on behind record n
+-- it goes on after record n
 pub slots_more : (t : Tape) (bytes : List ℕ) (n m k : ℕ) → m ≡ k + 1 → bytes ≡ record_at t n → list_any is_end (entries_of bytes) ≡ false
     → slots_from t n m ≡ before_end (entries_of bytes) ++ slots_from t (n + 1) k
 slots_more t bytes n zero k later e h = absurd (omega arith)

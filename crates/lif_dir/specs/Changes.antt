@@ -1,4 +1,4 @@
--- What a command changes of a directory: a slot, the slot behind it where that changes too, and an end behind them.
+-- What a command changes of a directory: a slot, the slot after it where that changes too, and an end after them.
 use Rattle.std.specs.Prelude.{◌≡◌, ◌≢◌, ◌<◌, ◌≤◌, ◌++◌, ◌==◌, if◌then◌else◌, ℕ, suc, Bool, List, [], ◌∷◌, true, length, max, set, Option, Some, None, IfSome}
 use Rattle.lif_model.specs.Tape.{Tape}
 use Rattle.lif_model.specs.Made.{with_type}
@@ -10,17 +10,17 @@ use Rattle.lif_dir.specs.Entries.{entry_bytes, slot_of, slot_from}
 
 -- ---- places
 
--- the place behind slot k and the one behind it, where that changes too
+-- the place after slot k and the one after it, where that changes too
 abbrev pub after_next : ℕ → Option FileEntry → ℕ
 after_next k None = suc k
 after_next k (Some next) = suc (suc k)
 
--- the place behind the slots that change
+-- the place after the slots that change
 abbrev pub slot_after : Change → ℕ
 slot_after change = after_next change.slot change.next
 
 -- In a directory of so many slots, with room for so many, each slot that changes is one of them or, as one at most, stands
--- behind the last, no entry is an end, and the end that is put behind them has a slot, past all slots before; where they are more
+-- after the last, no entry is an end, and the end that is put after them has a slot, past all slots before; where they are more
 -- than before and there is a slot for it, an end is put.
 pub record FitsIn (room count : ℕ) (change : Change) : Type 0 where
   pub place : change.slot ≤ count
@@ -53,7 +53,7 @@ change_writes start change tape = entry_writes change ++ end_write change.ended 
 
 -- ---- the slots with the change
 
--- slot k replaced, or appended where k is the place behind the last
+-- slot k replaced, or appended where k is the place after the last
 abbrev pub put_slot : {X : Type 0} → List X → ℕ → X → List X
 put_slot xs k x = if k == length xs then xs ++ x ∷ [] else set xs k x
 

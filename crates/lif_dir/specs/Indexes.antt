@@ -16,7 +16,7 @@ name_at slots i = name_of (get_or slots i [])
 abbrev pub name_in : List (List ℕ) → List ℕ → ℕ → List ℕ
 name_in slots places j = name_at slots (get_or places j 0)
 
--- byte by byte, the first does not stand behind the second
+-- byte by byte, the first does not come after the second
 abbrev pub IsUpTo : List ℕ → List ℕ → Type 0
 IsUpTo a b = is_gt (slice_cmp nat_cmp a b) ≡ false
 

@@ -135,7 +135,7 @@ pub holds_tells : (k : ℕ) (slot : List ℕ) → holds k slot ≡ true → (sta
 holds_tells k slot is = let both = and_parts _ _ is in (leb-true (start_of slot) k both.0, ltb-true k (end_of slot) both.1)
 
 module _ (version : Version) (n : ℕ) (header : List ℕ) (slots : List (List ℕ)) (legal : IsLegal n header slots) (p : ℕ) (lt : p < length slots) (redo : is_redo_entry n version (get_or slots p []) ≡ true) where
-  -- the redo file stands behind the directory
+  -- the redo file comes after the directory
   redo_behind : (directory_end header ≤ redo_start version n) × (redo_start version n + redo_length version ≤ n)
   redo_behind =
       let entry = redo_entry_tells n version (get_or slots p []) redo in
@@ -349,7 +349,7 @@ settles_below_adopted version u x legal adopted settles =
     (volume_agrees w u size used, and_false (not (is_none (redo_of x))) (is_gate_held w) off)
 
 -- .. or with another version whose redo file begins no later than that of the commit (for
--- `upgrade`, whose volume is of version 2 behind a commit of version 1, and for `format` on a
+-- `upgrade`, whose volume is of version 2 after a commit of version 1, and for `format` on a
 -- volume of version 2) ..
 pub settles_below_other : (version other : Version) (u x : Tape) → is_legal u ≡ true → is_adopted_with (length u) other (slots_of u) ≡ true → redo_start other (length u) ≤ redo_start version (length u)
     → SettlesBelow version u x → (volume_of x ≡ volume_in u) × (is_foreign_gated x ≡ false)
@@ -364,8 +364,8 @@ settles_below_clear version u x long first uses off settles =
     let both = volume_below u (settled x) long (length_settled x ∙ settles.records) below (λ legal k on. below k (uses legal k on)) in
     (both.0, and_false (not (is_none (redo_of x))) (is_gate_held (settled x)) (both.1 ∙ off))
 
--- At any moment of the commit of `upgrade`, and behind a trouble in it, the tape has the volume
--- before or the one behind, and no other file's gate (for `upgrade`).
+-- At any moment of the commit of `upgrade`, and after a trouble in it, the tape has the volume
+-- before or the one after, and no other file's gate (for `upgrade`).
 pub upgrade_old_or_new : (changes : Changes) (u x : Tape) → is_legal u ≡ true → is_adopted_with (length u) One (slots_of u) ≡ true → is_legal (changed changes u) ≡ true
     → is_adopted_with (length u) Two (slots_of (changed changes u)) ≡ true → IsOldOrNew One changes u x
     → ((volume_of x ≡ volume_in u) ⊎ (volume_of x ≡ volume_in (changed changes u))) × (is_foreign_gated x ≡ false)

@@ -28,7 +28,7 @@ c_name = codes "C         "
 abbrev place : List (List ℕ) → ℕ → Place
 place slots count = fit 12 4 16 slots count
 
--- the redo entry's own slot, behind the directory
+-- the redo entry's own slot, after the directory
 first_file : place (redo ∷ []) 1 ≡ At 0 4
 unfolding two_at four_at name_of
 first_file = refl
@@ -51,7 +51,7 @@ second_hole : place (purged (file a_name 4 1) ∷ purged (file b_name 5 2) ∷ f
 unfolding two_at four_at name_of with_type
 second_hole = refl
 
--- the numbers of a purged slot count as well: no candidate behind it has room, and none before it
+-- the numbers of a purged slot count as well: no candidate after it has room, and none before it
 -- ends past its start
 junk_counts : (place (junk ∷ redo ∷ []) 1 ≡ At 0 4) × (place (purged (file a_name 6 9) ∷ redo ∷ []) 5 ≡ NoRoom)
     × (candidates 16 (purged (file a_name 6 9) ∷ redo ∷ []) ≡ 0 ∷ 1 ∷ []) × (place (file b_name 4 1 ∷ purged (file a_name 6 9) ∷ file c_name 5 1 ∷ redo ∷ []) 1 ≡ NoRoom)
@@ -59,7 +59,7 @@ unfolding two_at four_at name_of with_type
 junk_counts = (refl, refl, refl, refl)
 
 -- a full directory without a purged slot, one whose redo entry is not last, and one with a purged
--- slot behind it
+-- slot after it
 no_slot : (fit 12 4 2 (file a_name 4 1 ∷ redo ∷ []) 1 ≡ NoSlot) × (place (redo ∷ file a_name 4 1 ∷ []) 1 ≡ NoSlot) × (place (redo ∷ purged (file a_name 4 1) ∷ []) 1 ≡ NoSlot)
 unfolding two_at four_at name_of with_type
 no_slot = (refl, refl, refl)
@@ -240,7 +240,7 @@ no_upgrade : (refusal_of 50 Upgrade (fifty 2 (file a_name 4 13 ∷ [])) ≡ Some
 unfolding two_at four_at name_of fresh_header piece new_entry
 no_upgrade = (refl, refl, refl)
 
--- the redo entry of version 2 counts as behind its own place: its start bounds the place, and not
+-- the redo entry of version 2 counts as after its own place: its start bounds the place, and not
 -- the gate, record 46
 bounded_by_redo : (fit 50 4 16 (redo_entry Two 50 ∷ []) 12 ≡ At 0 4) × (fit 50 4 16 (redo_entry Two 50 ∷ []) 13 ≡ NoRoom) × (fit 50 4 16 (redo_in_fifty ∷ []) 42 ≡ At 0 4)
 unfolding two_at four_at name_of new_entry
@@ -261,6 +261,6 @@ unfolding fresh_header piece two_at four_at label_of
 formatted_header = (refl, refl, refl)
 
 -- on a tape of twelve records a directory of six records ends at the gate, and one of seven would
--- end behind it
+-- end after it
 longest_directory : (refusal_of 12 (Format (codes "HPTAPE") 48) None ≡ None) × (refusal_of 12 (Format (codes "HPTAPE") 49) None ≡ Some refusal.NoRoom) × (refusal_of 512 (Format (codes "HPTAPE") 4048) None ≡ None)
 longest_directory = (refl, refl, refl)

@@ -90,7 +90,7 @@ module _ (n : ℕ) (u : Tape) (v : Volume) (tape : IsTape n u) (is : volume_in u
       let same = aside u c settled (partly_aside n u v i first (file_records bytes) tape is (storable n v name kind implementation bytes none).adopted (place_of_records bytes i first chosen) c partly) in
       (same.1 ∙ ap volume_in settled ∙ is, same.2)
 
-  -- and behind it the tape is settled, as a commit wants it
+  -- and after it the tape is settled, as a commit wants it
   pub file_settled : (name : List ℕ) (kind : ℕ) (implementation bytes : List ℕ) (i first : ℕ) (t : Tape) → IsSettled u
       → refusal_of n (Store name kind implementation bytes) (Some v) ≡ None
       → fit_in n v (file_length bytes) ≡ At i first → Replaced first (file_records bytes) u t → IsSettled t

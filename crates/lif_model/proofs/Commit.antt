@@ -100,7 +100,7 @@ shut_from version t u c size below shut = record {
 pub shut_quiet_from : (version : Version) (t u c : Tape) → Quiet version t u → IsShut version u c → Quiet version t c
 shut_quiet_from version t u c quiet shut = shut_quiet version t c (shut_from version t u c quiet.records quiet.below shut)
 
--- a write in the redo file, other than at the gate, behind a closed gate
+-- a write in the redo file, other than at the gate, after a closed gate
 pub torn_shut : (version : Version) (n : ℕ) (t u c : Tape) → redo_start version (length t) ≤ n → n ≢ gate_of (length t) → IsShut version t u → Torn n u c → IsShut version t c
 torn_shut version n t u c le ne shut torn = record {
   records = torn.records ∙ shut.records;
@@ -266,7 +266,7 @@ settles_too t x c cs is new = record {
 pub settles_self : (t : Tape) → SettlesAs (settled t) t
 settles_self t = record { records = sym (length_settled t); same = λ k ne. refl }
 
--- ---- writes behind a closed gate, with their moments
+-- ---- writes after a closed gate, with their moments
 
 module _ (version : Version) (t : Tape) where
   pub shut_start : (now : ℕ) (since : ℕ → Tape → Type 0) → ((c : Tape) → since now c → c ≡ t) → has_open_gate t ≡ false → LeavesOnly now now since since (IsShut version t)

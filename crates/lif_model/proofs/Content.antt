@@ -1,5 +1,5 @@
--- The files of a tape behind a command, by the slots that the command leaves: `files_of` of the new
--- tape is what the command makes of the files before. `w` is the tape behind the command. It agrees
+-- The files of a tape after a command, by the slots that the command leaves: `files_of` of the new
+-- tape is what the command makes of the files before. `w` is the tape after the command. It agrees
 -- with the tape before, or for a store with the tape on which the file stands, on the records from
 -- the directory's end to the gate.
 use Rattle.std.proofs.Common.{◌≡◌, ◌≢◌, ◌<◌, ◌≤◌, ◌+◌, ℕ, suc, List, [], ◌∷◌, Bool, true, false, if◌then◌else◌, Option, Some, length, get_or, inl, inr, refl, sym, ◌∙◌, ap, arith, None, ◌++◌}
@@ -88,7 +88,7 @@ module _ (n : ℕ) (v : Volume) (name : List ℕ) (kind : ℕ) (implementation b
         | inr more ↦ done.behind k (omega (arith, more, length_cut (file_length bytes) bytes))
       ])
 
-  -- the files with the new one (for the volume behind `store`)
+  -- the files with the new one (for the volume after `store`)
   pub files_stored : files_of w (placed v.slots i entry) ≡ insert (files_of u v.slots) name (filled bytes)
   files_stored = same_files (files_of w later) (insert (files_of u v.slots) name (filled bytes)) (λ q. get_file w later n q (sym size_w) ∙ at q (names_of q name) ∙ sym (gets q))
     where
@@ -113,7 +113,7 @@ module _ (n : ℕ) (v : Volume) (is : IsAdopted n v) (u w : Tape) (size : length
   kept_content : (j : ℕ) → j < length v.slots → is_file n (get_or v.slots j []) ≡ true → content_of w (get_or v.slots j []) ≡ content_of u (get_or v.slots j [])
   kept_content j lt file = content_agree w u (get_or v.slots j []) (λ k on. let within = file_within n v is j k lt file on in agree k within.0 within.1)
 
-  -- the files without the purged one (for the volume behind `purge`)
+  -- the files without the purged one (for the volume after `purge`)
   pub files_purged : (name : List ℕ) → refusal_of n (Purge name) (Some v) ≡ None → files_of w (with_slot name (with_type 0) v.slots) ≡ remove (files_of u v.slots) name
   files_purged name none = same_files (files_of w later) (remove (files_of u v.slots) name) (λ q. get_file w later n q (sym size_w) ∙ at q (names_of q name) ∙ sym (gets q))
     where
@@ -129,7 +129,7 @@ module _ (n : ℕ) (v : Volume) (is : IsAdopted n v) (u w : Tape) (size : length
       at q (other apart e) = ap (option_map (content_of w)) (purged_others n v name is none q apart) ∙ contents_kept n u w v.slots q kept_content
           ∙ sym (ap (λ (b : Bool). if b then None else option_map (content_of u) (file_named n v.slots q)) e)
 
-  -- the same bytes under the new name (for the volume behind `rename`)
+  -- the same bytes under the new name (for the volume after `rename`)
   pub files_renamed : (old new : List ℕ) → IsWellFormed (Rename old new) → refusal_of n (Rename old new) (Some v) ≡ None → old ≢ new
       → files_of w (with_slot old (with_name new) v.slots) ≡ moved_key (files_of u v.slots) old new (get (files_of u v.slots) old)
   files_renamed old new formed none apart = by_slot (renamed_named n v old new is formed none apart)
@@ -168,11 +168,11 @@ module _ (n : ℕ) (v : Volume) (is : IsAdopted n v) (u w : Tape) (size : length
           at q (other off e) (other apart_old f) = ap (option_map (content_of w)) (found.1.others q off apart_old) ∙ contents_kept n u w v.slots q kept_content
               ∙ sym (λ i. if e i then Some (content_of u slot) else (if f i then None else option_map (content_of u) (file_named n v.slots q)))
 
-  -- the same files (for the volume behind `upgrade`)
+  -- the same files (for the volume after `upgrade`)
   pub files_upgraded : is_upgraded n v ≡ false → refusal_of n Upgrade (Some v) ≡ None → files_of w (upgraded n v).slots ≡ files_of u v.slots
   files_upgraded old none = same_slots n u w v.slots (upgraded n v).slots size size_w (upgraded_named n v is old none) kept_content
 
--- the same files (for the volume behind `adopt`)
+-- the same files (for the volume after `adopt`)
 pub files_adopted : (n : ℕ) (v : Volume) (u w : Tape) → IsVolume n v → is_adopted n v.slots ≡ false → refusal_of n Adopt (Some v) ≡ None → length u ≡ n → length w ≡ n
     → ((k : ℕ) → directory_end v.header ≤ k → k < gate_of n → record_at w k ≡ record_at u k) → files_of w (v.slots ++ redo_entry One n ∷ []) ≡ files_of u v.slots
 files_adopted n v u w is foreign none size size_w agree = same_slots n u w v.slots (v.slots ++ redo_entry One n ∷ []) size size_w (adopted_named n v is foreign none)

@@ -45,7 +45,7 @@ filter_push test (k ∷ ks) r = go (test k) (filter_push test ks r)
     go true rest = ap (λ (js : List ℕ). k ∷ js) rest
     go false rest = rest
 
--- a record that was touched before is not touched again, and any other one behind those
+-- a record that was touched before is not touched again, and any other one after those
 pub touched_more : (start : ℕ) (ws : SlotWrites) (w : ℕ × List ℕ)
     → touched start (ws ++ w ∷ []) ≡ touched start ws ++ (if is_among (touched start ws) (slot_record start w.0) then [] else slot_record start w.0 ∷ [])
 touched_more start [] w = refl
@@ -67,7 +67,7 @@ touched_more start (v ∷ ws) w = ap (λ (ks : List ℕ). q ∷ filter (λ k. no
         ks : List ℕ
         ks = touched start ws
 
-        -- what is behind the rest: nothing, where the record was touched, or it is the first one
+        -- what is after the rest: nothing, where the record was touched, or it is the first one
         behind : Bool → (r ≡ q) ⊎ (r ≡ q → ⊥) → List ℕ
         behind true same = []
         behind false (inl e) = []

@@ -28,7 +28,7 @@ set_shaped t n bytes whole shaped k lt = elim (cases_eq k n) [
   | inr ne ↦ ap (λ (r : List ℕ). length r) (get_or-set_other t n k bytes [] ne) ∙ shaped k (omega (arith, lt, length-set t n bytes))
 ]
 
--- what a record holds behind a change
+-- what a record holds after a change
 pub record_behind : (t : Tape) (k n : ℕ) (bytes : List ℕ) → n < length t → record_at (set t k bytes) n ≡ (if k == n then bytes else record_at t n)
 record_behind t k n bytes within = elim (cases_Bool (k == n)) [
   | inl same ↦

@@ -39,7 +39,7 @@ slot_is_at slots name has =
       found = find_at (is_live_named name) slots ∙ slice_get-get_or slots (position_or_len (is_live_named name) slots) [] tells.0;
     }
 
--- where no live file has it, no slot is found, and the search ends behind the last slot
+-- where no live file has it, no slot is found, and the search ends after the last slot
 pub no_slot_has : (slots : List (List ℕ)) (name : List ℕ) → has_file slots name ≡ false → (slot_named slots name ≡ None) × (position_or_len (is_live_named name) slots ≡ length slots)
 no_slot_has slots name none = (
   not_found (is_live_named name) slots (λ k lt. none_at [] (is_live_named name) slots k none lt),
@@ -72,7 +72,7 @@ one_test n name slot off = elim (cases_Bool (bytes_eq (name_of slot) name)) [
     and_true false = refl
 
 -- The file of a name that is not the redo file's is the live slot of that name (for `fetch`,
--- `rename` and `purge`, behind the test for Protected; a volume without a redo file protects no
+-- `rename` and `purge`, after the test for Protected; a volume without a redo file protects no
 -- name).
 pub file_is_slot : (n : ℕ) (v : Volume) (name : List ℕ) → is_protected n v name ≡ false → file_named n v.slots name ≡ slot_named v.slots name
 file_is_slot n v name off = find_same (λ slot. is_file n slot && bytes_eq name (name_of slot)) (is_live_named name) v.slots (λ k lt.

@@ -11,7 +11,7 @@ use Rattle.lif_model.specs.Made.{in_two, in_four, new_entry, with_name, with_typ
 
 -- ---- numbers
 
--- numbers behind a front of n bytes
+-- numbers after a front of n bytes
 pub two_behind : (p q : List ℕ) (n i : ℕ) → length p ≡ n → two_at (p ++ q) (n + i) ≡ two_at q i
 unfolding two_at
 two_behind p q n i e =
@@ -70,7 +70,7 @@ module _ (name : List ℕ) (kind start count : ℕ) (implementation : List ℕ) 
   unfolding new_entry
   new_size four = length-append name _ ∙ omega (arith, ten, four)
 
--- another name leaves all behind the name
+-- another name leaves all after the name
 module _ (name entry : List ℕ) (ten : length name ≡ 10) where
   named_rest : (j : ℕ) → 10 ≤ j → get_or (with_name name entry) j 0 ≡ get_or entry j 0
   unfolding with_name
@@ -165,7 +165,7 @@ pub four_front : (p q : List ℕ) (i : ℕ) → i + 3 < length p → four_at (p 
 unfolding four_at
 four_front p q i lt = omega (arith, two_front p q i (omega arith), two_front p q (i + 2) (omega arith))
 
--- fewer bytes than a record has, with the zeros behind them
+-- fewer bytes than a record has, with the zeros after them
 pub piece_short : (bytes : List ℕ) → length bytes ≤ 256 → piece bytes ≡ bytes ++ replicate (256 - length bytes) 0
 unfolding piece
 piece_short bytes le = ap (λ (bs : List ℕ). bs ++ replicate (256 - length bytes) 0) (take_all 256 bytes le)

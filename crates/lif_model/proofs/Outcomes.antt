@@ -91,7 +91,7 @@ committed_settles version changes t x done = record {
   same = λ k lt. ap (λ (s : Tape). record_at s k) (committed_settled version changes t x done) ∙ done.below k (subst (λ (m : ℕ). k < redo_start version m) (length_changed changes t) lt);
 }
 
--- Behind an Ok stands the next volume.
+-- After an Ok stands the next volume.
 pub commit_leaves : (version : Version) (n : ℕ) (changes : Changes) (t x : Tape) (v w : Volume) → is_adopted_with n version v.slots ≡ true
     → Makes n v w (changed changes t)
     → IsCommitted version changes t x → (volume_of x ≡ Some w) × (is_foreign_gated x ≡ false)

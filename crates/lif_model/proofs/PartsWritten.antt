@@ -176,7 +176,7 @@ module _ (n : ℕ) (m : Midway) (p : Part) (t : Tape) (is : IsAdopted n m.volume
   are : AreEntries (capacity_of m.volume.header) ws
   are = part_entries n m p t is (entry_on_size n t m.volume on) does
 
-  -- the files are behind the directory
+  -- the files are after the directory
   files_stay : (k : ℕ) → k < directory_end m.volume.header → record_at (with_files fs t) k ≡ record_at t k
   files_stay k lt =
       let version = adopted_version n m.volume.slots is.adopted in

@@ -156,7 +156,7 @@ partly_elsewhere first pieces old new k partly out = go (nat_lt partly.count (le
 pub aside_here : (u : Tape) → IsAside u u
 aside_here u = record { records = refl; used = λ k on. refl; gate = refl; targets = refl }
 
--- One run more at spare records, behind others that were written aside (for each file of a command
+-- One run more at spare records, after others that were written aside (for each file of a command
 -- that writes several).
 module _ (version : Version) (u t : Tape) (start : ℕ) (pieces : List (List ℕ)) (spare : (k : ℕ) → start ≤ k → k < start + length pieces → IsSpare version u k) (so_far : IsAside u t) where
   kept_aside : (c : Tape) → length c ≡ length t → ((k : ℕ) → (k < start) ⊎ (start + length pieces ≤ k) → record_at c k ≡ record_at t k) → IsAside u c

@@ -108,7 +108,7 @@ among_are (v ∷ vs) n bytes = go (is_valid v n bytes) refl (among_are vs n byte
 pub valid_are : (n : ℕ) (bytes : List ℕ) (version : Version) (ts : List ℕ) → targets_of n bytes ≡ Valid version ts → are_targets version n ts ≡ true
 valid_are n bytes version ts is = subst (Are n) is (among_are versions n bytes)
 
--- ---- what stands behind the gate
+-- ---- what comes after the gate
 
 -- the data records are apart from the gate and the targets record, and in the redo file
 pub data_place : (version : Version) (n i : ℕ) → redo_length version < n → (redo_start version n ≤ data_record version n i) × (gate_of n ≢ data_record version n i) × (targets_place n ≢ data_record version n i)
@@ -131,7 +131,7 @@ pub held_same : (version : Version) (n : ℕ) (x y : Tape) (i : ℕ) (ts : List 
 held_same version n x y i [] same = refl
 held_same version n x y i (target ∷ ts) same = λ d. (target, same i d) ∷ held_same version n x y (suc i) ts same d
 
--- what a targets record says on a tape of n records, and what stands behind the gate of such a tape
+-- what a targets record says on a tape of n records, and what comes after the gate of such a tape
 pub named_at : (n : ℕ) (t : Tape) → length t ≡ n → targets_of (length t) (record_at t (targets_place (length t))) ≡ targets_of n (record_at t (targets_place n))
 named_at n t e = ap (λ (m : ℕ). targets_of m (record_at t (targets_place m))) e
 

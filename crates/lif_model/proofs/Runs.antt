@@ -33,14 +33,14 @@ pub bytes_from_all : (t : Tape) → bytes_from t 0 (length t) ≡ bytes_of t
 bytes_from_all [] = refl
 bytes_from_all (x ∷ t) = ap (λ (bytes : List ℕ). x ++ bytes) (bytes_from_behind x t 0 (length t) ∙ bytes_from_all t)
 
--- piece i of a run begins 256 * i bytes behind its front
+-- piece i of a run begins 256 * i bytes after its front
 pub piece_at : (n i : ℕ) (bytes : List ℕ) → i < n → record_at (cut n bytes) i ≡ piece (drop (256 * i) bytes)
 piece_at zero i bytes lt = absurd (omega (arith, lt))
 piece_at (suc n) zero bytes lt = refl
 piece_at (suc n) (suc i) bytes lt =
     piece_at n i (drop 256 bytes) (omega (arith, lt)) ∙ ap piece (drop-drop (256 * i) 256 bytes ∙ ap (λ (m : ℕ). drop m bytes) (omega arith))
 
--- behind a piece begins the next
+-- after a piece begins the next
 pub drop_next : (i : ℕ) (bytes : List ℕ) → drop 256 (drop (256 * i) bytes) ≡ drop (256 * (i + 1)) bytes
 drop_next i bytes =
     let sum : 256 * i + 256 ≡ 256 * (i + 1) = omega arith in

@@ -19,7 +19,7 @@ use Rattle.lif_model.proofs.Adopted.{position_tells, with_slot_at}
 use Rattle.lif_model.proofs.Directory.{entry_size, entries_count, entry_of_all, before_end_at, slot_at, volume_tells, volume_in_is}
 use Rattle.lif_model.proofs.Writing.{AreEntries, untouched, last_written, slots_elsewhere, slot_written}
 
--- behind the slots stands an end, or the directory is full
+-- after the slots stands an end, or the directory is full
 stops : (xs : List (List ℕ)) → length (before_end xs) < length xs → is_end (get_or xs (length (before_end xs)) []) ≡ true
 stops [] lt = absurd (omega (arith, lt))
 stops (x ∷ xs) lt = go (is_end x) refl lt (stops xs)
@@ -58,9 +58,9 @@ is_on n u v is e =
       ends = omega (arith, readable.0, readable.1, readable.2);
     }
 
--- ---- the slot behind the last
+-- ---- the slot after the last
 
--- a write of an end behind slot k leaves every other slot
+-- a write of an end after slot k leaves every other slot
 pub ended_other : (capacity : ℕ) (u : Tape) (k j : ℕ) (old : List ℕ) → j ≢ k → last_written (ended_behind capacity u k) j old ≡ old
 ended_other capacity u k j old ne = go (nat_lt k capacity)
   where
@@ -142,7 +142,7 @@ module _ (n : ℕ) (t : Tape) (v : Volume) (on : IsOn n t v) where
       let column : k % 8 < 8 = omega arith in
       ap (λ (e : List ℕ). length e) (sym (on_header k)) ∙ entry_size (record_at t (slot_record start k)) (k % 8) (on.tape.bytes (slot_record start k) (omega (arith, lt, on.ends))) column
 
-  -- behind the last slot the directory ends, or is full
+  -- after the last slot the directory ends, or is full
   pub end_behind : length v.slots < capacity_of v.header → is_end (entry_from t start (length v.slots)) ≡ true
   end_behind lt =
       let all : List (List ℕ) = entries_from t start room in
@@ -153,7 +153,7 @@ module _ (n : ℕ) (t : Tape) (v : Volume) (on : IsOn n t v) where
   pub header_stays : (ws : SlotWrites) → AreEntries (capacity_of v.header) ws → record_at (with_slots start ws t) 0 ≡ record_at t 0
   header_stays ws are = slots_elsewhere start ws t 0 (untouched start room ws 0 are (inl on.starts))
 
-  -- The slots of the tape behind the writes: those that were written, and the others as before, up
+  -- The slots of the tape after the writes: those that were written, and the others as before, up
   -- to an end or to the end of the room.
   pub slots_become : (ws : SlotWrites) (later : List (List ℕ)) → AreEntries (capacity_of v.header) ws → length later ≤ capacity_of v.header
       → ((k : ℕ) → k < length later → last_written ws k (entry_from t start k) ≡ get_or later k [])

@@ -103,7 +103,7 @@ pairs_mapped {X} f test (x ∷ xs) = let rest = pairs_mapped f test xs in λ i. 
 -- ---- neighbours
 
 module _ {X : Type 0} (d : X) where
-  -- where an element that passes with the next one passes with all behind that, neighbours tell of
+  -- where an element that passes with the next one passes with all after that, neighbours tell of
   -- all pairs
   by_neighbours : (test : X → X → Bool) (xs : List X)
       → ((i k : ℕ) → suc i < k → k < length xs → test (get_or xs i d) (get_or xs (suc i) d) ≡ true → test (get_or xs i d) (get_or xs k d) ≡ true) → all_pairs test xs ≡ all_neighbours test xs
@@ -153,7 +153,7 @@ module _ {X : Type 0} (d : X) where
 
 -- ---- legal directories
 
--- a live slot that has records ends behind its start
+-- a live slot that has records ends after its start
 
 pub picked_filled : (slots : List (List ℕ)) (i : ℕ) → i < length (filter occupies slots) → start_of (get_or (filter occupies slots) i []) < end_of (get_or (filter occupies slots) i [])
 picked_filled slots i lt =

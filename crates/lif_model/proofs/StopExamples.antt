@@ -51,7 +51,7 @@ failed t is = (after, refl, subst (λ (t : Tape). Torn 1 t after) same torn)
 abbrev past : ℕ → Tape → Type 0
 past m c = c ≡ before
 
--- behind it, a stop since moment 0 may have left a torn tape, and one since moment 1 leaves the tape written
+-- after it, a stop since moment 0 may have left a torn tape, and one since moment 1 leaves the tape written
 abbrev since : ℕ → Tape → Type 0
 since zero c = (c ≡ before) ⊎ Torn 1 before c
 since (suc m) c = c ≡ after
@@ -114,7 +114,7 @@ below_redo gate targets gate' targets' (suc (suc (suc (suc (suc (suc zero)))))) 
 below_redo gate targets gate' targets' (suc (suc (suc (suc (suc (suc (suc zero))))))) lt = refl
 below_redo gate targets gate' targets' (suc (suc (suc (suc (suc (suc (suc (suc k)))))))) lt = absurd (omega (arith, lt))
 
--- the redo file is written behind a closed gate
+-- the redo file is written after a closed gate
 staged : IsStaged One change old (with_redo blank targets)
 unfolding is_open is_valid targets_record piece two_at
 staged = record { shut = record { records = refl; below = below_redo blank targets blank blank; gate = refl }; loaded = record { named = refl; holds = refl } }

@@ -25,7 +25,7 @@ same_bytes bytes = (bytes_eq-Decides bytes bytes).1 refl
 
 -- ---- targets records
 
--- the numbers behind a front of n bytes
+-- the numbers after a front of n bytes
 numbers_behind : (p q : List ℕ) (n i count : ℕ) → length p ≡ n → numbers_at (p ++ q) (n + i) count ≡ numbers_at q i count
 numbers_behind p q n i zero e = refl
 numbers_behind p q n i (suc count) e =

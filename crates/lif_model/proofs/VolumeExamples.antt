@@ -1,5 +1,5 @@
 -- Worked examples of volumes, computed by the checker, on tapes of twelve and sixteen records: the
--- gate is record 8 or record 12, and files begin at record 4 behind a directory of two records.
+-- gate is record 8 or record 12, and files begin at record 4 after a directory of two records.
 use Rattle.std.proofs.Common.{◌≡◌, ◌++◌, ℕ, List, [], ◌∷◌, Some, None, true, false, refl, length, replicate, take, drop, codes, map}
 use Rattle.std.specs.FinMap.{empty, insert}
 use Rattle.lif_model.specs.Numbers.{two_at, four_at}
@@ -137,7 +137,7 @@ touching : is_legal (tape (file a_name 6 2 ++ file b_name 4 2 ++ base.end_entry)
 unfolding four_at two_at entries_of entry_at name_of
 touching = refl
 
--- an extent may end at the tape's end and not past it, and begins behind the directory
+-- an extent may end at the tape's end and not past it, and begins after the directory
 last_record : (is_legal (tape (file a_name 11 1 ++ base.end_entry)) ≡ true) × (is_legal (tape (file a_name 11 2 ++ base.end_entry)) ≡ false)
     × (is_legal (tape (file a_name 3 1 ++ base.end_entry)) ≡ false)
 unfolding four_at two_at entries_of entry_at name_of
@@ -166,12 +166,12 @@ long_sum : is_legal (tape (a_name ++ 0 ∷ 1 ∷ 0 ∷ 0 ∷ 0 ∷ 4 ∷ 0xFF �
 unfolding four_at two_at entries_of entry_at name_of
 long_sum = refl
 
--- a directory without an end mark: sixteen purged slots of zeros, and the same behind a file
+-- a directory without an end mark: sixteen purged slots of zeros, and the same after a file
 no_end_mark : (is_legal (tape []) ≡ true) × (length (slots_of (tape (file a_name 4 1))) ≡ 16)
 unfolding four_at two_at entries_of entry_at name_of
 no_end_mark = (refl, refl)
 
--- what stands behind the end mark is no slot
+-- what comes after the end mark is no slot
 behind_end_mark : slots_of (tape (file a_name 4 1 ++ base.end_entry ++ file b_name 4 1)) ≡ file a_name 4 1 ∷ []
 unfolding four_at two_at entries_of entry_at
 behind_end_mark = refl
@@ -258,7 +258,7 @@ gates : (is_foreign_gated (foreign (file a_name 4 6 ++ base.end_entry)) ≡ true
 unfolding four_at two_at entries_of entry_at name_of is_open is_valid targets_record piece zeros
 gates = (refl, refl, refl)
 
--- the same file behind a closed gate
+-- the same file after a closed gate
 gate_shut : is_foreign_gated (with_files (file a_name 4 6 ++ base.end_entry)) ≡ false
 unfolding four_at two_at entries_of entry_at name_of is_open is_valid targets_record piece zeros
 gate_shut = refl

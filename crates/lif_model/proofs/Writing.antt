@@ -81,7 +81,7 @@ abbrev pub Untouched : ℕ → SlotWrites → ℕ → Type 0
 Untouched start [] k = Unit {0}
 Untouched start (w ∷ ws) k = (k ≢ slot_record start w.0) × Untouched start ws k
 
--- a record before the directory, or behind that of so many slots, is not touched
+-- a record before the directory, or after that of so many slots, is not touched
 pub untouched : (start room : ℕ) (ws : SlotWrites) (k : ℕ) → AreEntries (8 * room) ws → (k < start) ⊎ (start + room ≤ k) → Untouched start ws k
 untouched start room [] k are out = tt
 untouched start room (w ∷ ws) k are out = (λ e. apart e out, untouched start room ws k are.2 out)
@@ -90,12 +90,12 @@ untouched start room (w ∷ ws) k are out = (λ e. apart e out, untouched start 
     apart e (inl before) = absurd (omega (arith, e, before))
     apart e (inr behind) = absurd (omega (arith, e, behind, are.0))
 
--- the bytes of record k behind the writes
+-- the bytes of record k after the writes
 abbrev pub rewritten : ℕ → SlotWrites → ℕ → List ℕ → List ℕ
 rewritten start [] k bytes = bytes
 rewritten start (w ∷ ws) k bytes = rewritten start ws k (if slot_record start w.0 == k then with_entry bytes (w.0 % 8) w.1 else bytes)
 
--- the bytes of slot k behind the writes: the last that were written, or else those before
+-- the bytes of slot k after the writes: the last that were written, or else those before
 abbrev pub last_written : SlotWrites → ℕ → List ℕ → List ℕ
 last_written [] k old = old
 last_written (w ∷ ws) k old = last_written ws k (if w.0 == k then w.1 else old)

@@ -148,7 +148,7 @@ adopted : written_by 12 Adopt (with (new_a ∷ [])) (tape (new_a ++ base.end_ent
 unfolding four_at two_at name_of entry_at with_entry with_type new_entry
 adopted = refl
 
--- one slot is left, and then the directory is full: no end follows, and the record behind it stays
+-- one slot is left, and then the directory is full: no end follows, and the record after it stays
 adopted_full : written_by 12 Adopt (with (slots_of_five ++ small 54 ∷ small 55 ∷ small 56 ∷ small 57 ∷ small 58 ∷ small 59 ∷ small 60 ∷ small 61 ∷ small 62 ∷ small 63 ∷ []))
     (tape (five ++ small 54 ++ small 55 ++ small 56) (small 57 ++ small 58 ++ small 59 ++ small 60 ++ small 61 ++ small 62 ++ small 63 ++ base.end_entry) (numbered 4))
     ≡ tape (five ++ small 54 ++ small 55 ++ small 56) (small 57 ++ small 58 ++ small 59 ++ small 60 ++ small 61 ++ small 62 ++ small 63 ++ redo) (numbered 4)

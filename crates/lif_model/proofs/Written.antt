@@ -54,7 +54,7 @@ module _ (n : ℕ) (u : Tape) (v : Volume) (tape : IsTape n u) (is : volume_in u
   pub kept_files : v.files ≡ files_of u v.slots
   kept_files = let tells = volume_tells u v is in tells.3 ∙ sym (ap (files_of u) tells.2)
 
-  -- writes of slots leave the records behind the directory
+  -- writes of slots leave the records after the directory
   pub behind_stays : (t : Tape) (ws : SlotWrites) (j : ℕ) → AreEntries (capacity_of v.header) ws → directory_end v.header ≤ j
       → record_at (with_slots (directory_start v.header) ws t) j ≡ record_at t j
   behind_stays t ws j are le = slots_elsewhere (directory_start v.header) ws t j (untouched (directory_start v.header) (directory_length v.header) ws j are (inr le))

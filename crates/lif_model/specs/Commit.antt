@@ -65,7 +65,7 @@ pub record IsLoaded (version : Version) (changes : Changes) (x : Tape) : Type 0 
   pub named : targets_of (length x) (record_at x (targets_place (length x))) ≡ Valid version (targets_in changes)
   pub holds : behind x ≡ changes
 
--- the same behind a closed gate, and below the redo file the tape is t
+-- the same after a closed gate, and below the redo file the tape is t
 pub record IsStaged (version : Version) (changes : Changes) (t x : Tape) : Type 0 where
   pub shut : IsShut version t x
   pub loaded : IsLoaded version changes x

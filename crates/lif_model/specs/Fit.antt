@@ -44,11 +44,11 @@ abbrev pub least_start : ℕ → List (List ℕ) → ℕ
 least_start high [] = high
 least_start high (slot ∷ slots) = if has_records slot then min (start_of slot) (least_start high slots) else least_start high slots
 
--- the slots behind candidate i; the redo entry is behind its own place
+-- the slots after candidate i; the redo entry is after its own place
 abbrev pub slots_behind : List (List ℕ) → ℕ → List (List ℕ)
 slots_behind slots i = if i == redo_place slots then drop i slots else drop (suc i) slots
 
--- from this record on, at or behind the directory's end
+-- from this record on, at or after the directory's end
 abbrev pub low_of : ℕ → List (List ℕ) → ℕ → ℕ
 low_of directory_end slots i = greatest_end directory_end (take i slots)
 

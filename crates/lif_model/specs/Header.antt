@@ -19,7 +19,7 @@ directory_start header = four_at header 8
 abbrev pub directory_length : List ℕ → ℕ
 directory_length header = four_at header 16
 
--- the first record behind the directory
+-- the first record after the directory
 abbrev pub directory_end : List ℕ → ℕ
 directory_end header = directory_start header + directory_length header
 

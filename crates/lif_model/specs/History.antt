@@ -21,7 +21,7 @@ pub record LeftBy (first : Tape) (writes : Changes) (m : ℕ) (c : Tape) : Type 
   pub made : at ≤ length writes
   pub left : LeftAt first writes at c
 
--- The tape that a stop leaves behind the first k writes, or within the next one, whose record then holds these bytes.
+-- The tape that a stop leaves after the first k writes, or within the next one, whose record then holds these bytes.
 abbrev pub stopped_at : Tape → Changes → ℕ → Option (List ℕ) → Tape
 stopped_at first writes k None = tape_after first writes k
 stopped_at first writes k (Some torn) = set (tape_after first writes k) (get_or writes k (0, [])).0 torn

@@ -13,7 +13,7 @@ use Rattle.lif_model.specs.Pairs.{all_pairs}
 abbrev pub is_live : List ℕ → Bool
 is_live slot = not (is_purged slot)
 
--- the first record behind its extent; nothing is lost of the sum
+-- the first record after its extent; nothing is lost of the sum
 abbrev pub end_of : List ℕ → ℕ
 end_of slot = start_of slot + length_of slot
 

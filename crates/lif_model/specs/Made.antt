@@ -34,7 +34,7 @@ with_extent start count implementation entry =
     take 12 entry
     ++ (in_four start ++ (in_four count ++ (take 8 (drop 20 entry) ++ implementation)))
 
--- what `format` puts behind the only slot: zeros, of the type that ends a directory
+-- what `format` puts after the only slot: zeros, of the type that ends a directory
 abbrev pub end_entry : List ℕ
 end_entry = with_type 0xFFFF (replicate 32 0)
 

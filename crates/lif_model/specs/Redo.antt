@@ -112,7 +112,7 @@ abbrev pub held_by : ℕ → Tape → Targets → Changes
 held_by n tape Invalid = []
 held_by n tape (Valid version targets) = held_from version n tape 0 targets
 
--- the changes that stand behind the gate, open or closed
+-- the changes that come after the gate, open or closed
 abbrev pub behind : Tape → Changes
 behind tape = held_by (length tape) tape (targets_of (length tape) (record_at tape (targets_place (length tape))))
 

@@ -26,7 +26,7 @@ with_entry bytes k entry = take (32 * k) bytes ++ (entry ++ drop (32 * k + 32) b
 abbrev pub slot_record : ℕ → ℕ → ℕ
 slot_record start k = start + k / 8
 
--- the 32 bytes of slot k of that directory, also behind its last slot
+-- the 32 bytes of slot k of that directory, also after its last slot
 abbrev pub entry_from : Tape → ℕ → ℕ → List ℕ
 entry_from tape start k = entry_at (record_at tape (slot_record start k)) (k % 8)
 
@@ -73,7 +73,7 @@ abbrev pub ended_behind : ℕ → Tape → ℕ → SlotWrites
 ended_behind capacity tape k =
     if nat_lt k capacity then (k, with_type 0xFFFF (entry_on tape k)) ∷ [] else []
 
--- slot k and, where there is room, an end behind it
+-- slot k and, where there is room, an end after it
 abbrev pub last_slot : ℕ → Tape → ℕ → List ℕ → SlotWrites
 last_slot capacity tape k entry = (k, entry) ∷ ended_behind capacity tape (suc k)
 

@@ -4,7 +4,7 @@ ghost use Rattle.lif_model.specs.Header.{directory_end};
 ghost use Rattle.lif_model.specs.Directory.{length_of};
 ghost use Rattle.lif_model.specs.declared.version.Version.TheVariants.{Two};
 ghost use Rattle.lif_model.specs.Legal.{is_live};
-ghost use Rattle.lif_model.specs.Volume.{Volume, IsVolume, is_redo_entry};
+ghost use Rattle.lif_model.specs.Volume.{Volume, IsVolume};
 ghost use Rattle.lif_model.specs.Fit.{redo_place};
 ghost use Rattle.lif_dir.specs.Entries.{entry_bytes, slot_bytes};
 ghost use Rattle.lif_pack.specs.Marks.{MayBeMoved, IsMoving, IsMarkOf};
@@ -12,7 +12,8 @@ ghost use Rattle.lif_pack.specs.Marks.{MayBeMoved, IsMoving, IsMarkOf};
 use crate::placed::{is_in_order, length_of, packed_end, start_of};
 use lif_dir::{FileEntry, SlotTable};
 use lif_header::two_at;
-use lif_model::{REDO_KIND, REDO_NAME, Version};
+use lif_model::{REDO_NAME, Version};
+use lif_plan::is_redo_entry;
 
 /// A file that is being moved down, onto its own old records too.
 #[derive(Clone, Copy, Drop)]
@@ -53,7 +54,7 @@ pub fn mark_of(slots: &SlotTable, size: u16) -> Option<Mark>
         return None;
     }
     let entry = *slots.entry(redo);
-    if !is_redo_entry(entry, Version::Two, size) {
+    if !is_redo_entry(entry, size, Version::Two) {
         return None;
     }
     let bytes = entry.bytes();
@@ -81,16 +82,6 @@ pub fn redo_place(slots: &SlotTable) -> usize
         }
     }
     slots.len()
-}
-
-/// Whether the entry is that of a redo file of this version.
-pub fn is_redo_entry(entry: FileEntry, version: Version, size: u16) -> bool
-    ensures { result ≡ is_redo_entry size version (entry_bytes entry) }
-{
-    entry.name.bytes() == *REDO_NAME
-        && entry.kind == REDO_KIND
-        && entry.start == u32::from(version.start(size))
-        && entry.length == u32::from(version.length())
 }
 
 /// The file of a mark, in a directory that ends before record `end`. `None` where the mark is not good.

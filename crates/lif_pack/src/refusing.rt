@@ -7,10 +7,11 @@ ghost use Rattle.lif_dir.specs.Entries.{entry_bytes, slot_bytes};
 ghost use Rattle.lif_model.specs.Packing.{pack_refusal};
 ghost use Rattle.lif_pack.specs.Steps.{HasPlainStart};
 
-use crate::marks::{is_redo_entry, redo_place};
+use crate::marks::redo_place;
 use crate::placed::is_in_order;
 use lif_dir::{FileEntry, SlotTable};
 use lif_model::{Refusal, Version};
+use lif_plan::is_redo_entry;
 
 /// Why the volume with these slots is not packed, on a medium of `size` records. `None` where it may be.
 pub fn refusal_of(slots: &SlotTable, size: u16) -> Option<Refusal>
@@ -24,7 +25,7 @@ pub fn refusal_of(slots: &SlotTable, size: u16) -> Option<Refusal>
         return Some(Refusal::NoRedo);
     }
     let entry = *slots.entry(redo);
-    if !is_redo_entry(entry, Version::Two, size) {
+    if !is_redo_entry(entry, size, Version::Two) {
         return Some(other_redo(entry, size));
     }
     if !is_in_order(slots, redo) {
@@ -37,7 +38,7 @@ pub fn refusal_of(slots: &SlotTable, size: u16) -> Option<Refusal>
 fn other_redo(entry: FileEntry, size: u16) -> Refusal
     ensures { result ≡ (if is_redo_entry size One (entry_bytes entry) then refusal.NeedsUpgrade else refusal.NoRedo) }
 {
-    if is_redo_entry(entry, Version::One, size) {
+    if is_redo_entry(entry, size, Version::One) {
         Refusal::NeedsUpgrade
     } else {
         Refusal::NoRedo

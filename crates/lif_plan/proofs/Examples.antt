@@ -135,7 +135,7 @@ not_may_take = (of_a_file, no_room)
 abbrev b_entry : FileEntry
 b_entry = entry_from (file b_name 4 1)
 
--- it takes slot 0; slot 1, which is the last but for an end behind it; and that of the redo entry
+-- it takes slot 0; slot 1, which is the last but for an end after it; and that of the redo entry
 abbrev first : Change
 first = record { version = One; slot = 0; entry = b_entry; next = None; ended = false }
 
@@ -154,7 +154,7 @@ new_end = replicate 10 7 ++ 0xFF ∷ 0xFF ∷ replicate 20 7
 abbrev tape : Tape
 tape = base.tape_with (a_file ++ base.end_entry ++ old_bytes)
 
--- the slot behind the end keeps its bytes but for the type
+-- the slot after the end keeps its bytes but for the type
 writes : (change_writes 2 first tape ≡ (0, file b_name 4 1) ∷ []) × (change_writes 2 second tape ≡ (1, file b_name 4 1) ∷ (2, new_end) ∷ [])
     × (change_writes 2 third tape ≡ (0, file b_name 4 1) ∷ (1, redo_one) ∷ (2, new_end) ∷ [])
 unfolding entry_at with_type four_at two_at name_of date_of implementation_of

@@ -15,7 +15,7 @@ use Rattle.lif_model.proofs.Apply.{format_is_adopted}
 pub redo_is_entry : (version : Version) (n : ℕ) → is_end (redo_entry version n) ≡ false
 redo_is_entry version n = ap (λ (k : ℕ). k == 0xFFFF) (new_type redo_name redo_type (redo_start version n) (redo_length version) (replicate 4 0) refl)
 
--- an entry, an end behind it, and zeros
+-- an entry, an end after it, and zeros
 pub first_made : (entry : List ℕ) → length entry ≡ 32
     → set (set (entry ++ drop 32 (replicate 256 0)) 42 255) 43 255 ≡ first_directory_record entry
 unfolding first_directory_record with_type

@@ -162,7 +162,7 @@ module _ {X : Type 0} (xs : List X) (k : ℕ) (x : X) where
   pub put_last : k ≡ length xs → put_slot xs k x ≡ xs ++ x ∷ []
   put_last last = ap (λ (b : Bool). if b then xs ++ x ∷ [] else set xs k x) (eq-eqb k (length xs) last)
 
--- an end behind the slots that change, where there is room
+-- an end after the slots that change, where there is room
 pub end_is : (capacity room start k : ℕ) (u : Tape) (ended : Bool) → capacity ≡ room → directory_start (record_at u 0) ≡ start → ended ≡ nat_lt k room
     → ended_behind capacity u k ≡ end_write ended start k u
 end_is capacity room start k u ended wide begins on = λ i. if (ap (nat_lt k) wide ∙ sym on) i then (k, with_type 0xFFFF (entry_from u (begins i) k)) ∷ [] else []

@@ -10,9 +10,9 @@ use Rattle.lif_model.specs.Gate.{gate_of}
 use Rattle.lif_model.proofs.Fit.{high_below}
 use Rattle.lif_model.proofs.Plain.{fit_after, fit_skips, fit_passes}
 
--- ---- the records before the slots behind
+-- ---- the records before the slots after
 
--- no file may end behind the gate
+-- no file may end after the gate
 pub free_past : (end gate : ℕ) (slots : List (List ℕ)) → gate < end → nat_le end (least_start gate slots) ≡ false
 free_past end gate slots lt = lt-leb end (least_start gate slots) (omega (arith, high_below gate slots))
 
@@ -38,14 +38,14 @@ pub greatest_next : (low k : ℕ) (slots : List (List ℕ)) (slot : List ℕ) �
 greatest_next low k slots slot lt is =
     ap (greatest_end low) (take_more slots k [] lt ∙ ap (λ (s : List ℕ). take k slots ++ s ∷ []) (sym is)) ∙ greatest_push low (take k slots) slot
 
--- ---- what is behind a candidate
+-- ---- what is after a candidate
 
 pub behind_other : (n k : ℕ) (slots : List (List ℕ)) → k < redo_place slots → high_of n slots k ≡ least_start (gate_of n) (drop (k + 1) slots)
 behind_other n k slots lt =
     ap (λ (b : Bool). least_start (gate_of n) (if b then drop k slots else drop (suc k) slots)) (ne_eqb k (redo_place slots) (omega arith))
     ∙ (let next : suc k ≡ k + 1 = omega arith in ap (λ (m : ℕ). least_start (gate_of n) (drop m slots)) next)
 
--- a candidate has room where the file ends before the slots behind it
+-- a candidate has room where the file ends before the slots after it
 pub room_before : (n low count end gate k : ℕ) (slots : List (List ℕ)) → k < redo_place slots → end ≡ low_of low slots k + count → gate ≡ gate_of n
     → nat_le end (least_start gate (drop (k + 1) slots)) ≡ nat_le (low_of low slots k + count) (high_of n slots k)
 room_before n low count end gate k slots lt ends is = (λ i. nat_le (ends i) (least_start (is i) (drop (k + 1) slots))) ∙ ap (nat_le (low_of low slots k + count)) (sym (behind_other n k slots lt))

@@ -89,7 +89,7 @@ pub record ChangesNothing (n : ℕ) (command : VolumeCommand) (header : HeaderPa
   pub nothing : (v : Volume) → IsVolumeWith n header slots v → (u : Tape) → changes_of n command v u ≡ []
   pub same : (v : Volume) → IsVolumeWith n header slots v → volume_after n command v ≡ v
 
--- the file of a new entry goes to its place: behind the directory, and before the redo file
+-- the file of a new entry goes to its place: after the directory, and before the redo file
 pub record PlacesFile (n : ℕ) (place : Volume → Place) (bytes : List ℕ) (header : HeaderParts) (slots : List (List ℕ)) (change : Change) : Type 0 where
   pub chosen : (v : Volume) → IsVolumeWith n header slots v → place v ≡ At change.slot change.entry.start
   pub count : change.entry.length ≡ file_length bytes

@@ -3,7 +3,7 @@ use Rattle.std.specs.Prelude.{◌≡◌, ◌⊎◌, Bool, true, false, List, [],
 use Rattle.lif_model.specs.declared.refusal.Refusal.{Refusal}
 use Rattle.lif_model.specs.declared.refusal.Refusal.TheVariants as refusal
 
--- whether the directory is kept behind a refusal: behind all but NotLif
+-- whether the directory is kept after a refusal: after all but NotLif
 abbrev pub keeps_behind : Refusal → Bool
 keeps_behind refusal.NotLif = false
 keeps_behind other = true

@@ -12,6 +12,6 @@ mod plans;
 
 pub use batches::{BatchPlan, PlannedFile};
 pub use choosing::{Choice, choose};
-pub use directory::{Directory, File};
+pub use directory::{Directory, File, is_redo_entry, is_redo_file};
 pub use fresh::FreshVolume;
 pub use lif_model::Refusal;

@@ -18,7 +18,7 @@ numbers_more : (ts : List ℕ) (t : ℕ) (rest : List ℕ) → flat_map in_two (
 numbers_more [] t rest = refl
 numbers_more (s ∷ ts) t rest = ap (λ (bs : List ℕ). s / 256 ∷ s % 256 ∷ bs) (numbers_more ts t rest)
 
--- two bytes set behind a front of n bytes
+-- two bytes set after a front of n bytes
 pair_set : (front rest : List ℕ) (n a b : ℕ) → length front ≡ n → set (set (front ++ 0 ∷ 0 ∷ rest) n a) (n + 1) b ≡ front ++ a ∷ b ∷ rest
 pair_set front rest n a b size =
     let none : n - n ≡ 0 = omega arith in

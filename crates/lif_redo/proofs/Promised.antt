@@ -1,4 +1,4 @@
--- What settling and a commit promise, where the store failed, where it wrote nothing, and behind a look at the gate.
+-- What settling and a commit promise, where the store failed, where it wrote nothing, and after a look at the gate.
 use Rattle.std.proofs.Common.{◌≡◌, ◌∙◌, ◌≤◌, ◌+◌, ◌++◌, ℕ, Bool, [], refl, sym, ap, arith}
 use Rattle.std.specs.Prelude.{Some, Result, Ok, Err, OnOk}
 use Rattle.lif_model.specs.Tape.{Tape}

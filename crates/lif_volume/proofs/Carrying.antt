@@ -391,7 +391,7 @@ module _ {R S : Type 0} (view : R → RecordsView S) (x : VolumeView R) (header 
             (omega (arith, few, is.0), λ e. omega (arith, few, is.1 e))
         few_of (Format label slots) never fits = absurd never
 
-        -- ---- what a stop leaves, and what stands behind
+        -- ---- what a stop leaves, and what comes after
 
         either : (c : Tape) → IsOldOrNew p.version made filed c → HasEitherVolume n command t c
         either c left =

@@ -43,7 +43,7 @@ counts : (calls_needed 512 ≡ 1064) × (mounting 512 None None ≡ 578) × (mou
 unfolding four_at two_at name_of entry_at entries_of is_open
 counts = (refl, refl, refl, refl, refl, refl, refl, refl, refl, refl)
 
--- behind which answers the directory is kept
+-- after which answers the directory is kept
 kept : (keeps {T = ℕ} (Err (Refused refusal.NotLif)) ≡ false) × (keeps {T = ℕ} (Err (Refused refusal.NoFile)) ≡ true) × (keeps {T = ℕ} (Ok 0) ≡ true)
 kept = (refl, refl, refl)
 

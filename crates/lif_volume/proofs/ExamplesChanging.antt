@@ -100,7 +100,7 @@ not_shut ended = let gate : base.filled (codes "LIFREDO1 OPEN   ") ≡ base.blan
 
 -- ---- refusals
 
--- `format` refuses for want of room before it settles, and every other refusal comes behind settling
+-- `format` refuses for want of room before it settles, and every other refusal comes after settling
 abbrev open_tape : Tape
 open_tape = tape (a_file ++ redo ++ base.end_entry) (base.filled (codes "LIFREDO1 OPEN   ")) (base.filled (codes "LIFREDO1" ++ 0 ∷ 1 ∷ 0 ∷ 2 ∷ [])) (base.filled without_a)
 
@@ -179,7 +179,7 @@ only one list = list ≡ one
 abbrev volume : Option Volume
 volume = with (a_file ∷ redo ∷ [])
 
--- the run of a store goes to the first record behind the file that is there; no other command has one
+-- the run of a store goes to the first record after the file that is there; no other command has one
 runs : (file_runs 12 (Store b_name 1 (replicate 4 0) (7 ∷ [])) volume ≡ run_of 5 (7 ∷ []) ∷ []) × (file_runs 12 (Purge a_name) volume ≡ []) × (file_runs 12 (Store b_name 1 (replicate 4 0) []) None ≡ [])
 unfolding four_at two_at name_of
 runs = (refl, refl, refl)
@@ -203,7 +203,7 @@ adds = record { goes_on = goes_on }
     goes_on [] is = ([], read 8 (numbered 0) ∷ [], refl, tt, λ on. refl, record { more = read 8 (numbered 0) ∷ []; are = refl; writes = refl; single = (refl, tt) })
     goes_on (t ∷ ts) is = cc
 
--- not where a record is written behind settling
+-- not where a record is written after settling
 not_adds : AddsCommit (λ k. k ≡ 8) false 12 (Rename a_name a_name) volume old (only []) (only (write 3 (numbered 7) ∷ [])) → ⊥
 unfolding four_at two_at name_of
 not_adds is = let all = is.goes_on [] refl in by all.0 all.1 all.2 all.3 (ap writes_among all.5.are ∙ all.5.writes)
@@ -250,7 +250,7 @@ abbrev kind_of_first : Option Volume → ℕ
 kind_of_first None = 0xFFFF
 kind_of_first (Some v) = get_or (get_or v.slots 0 []) 11 0
 
--- before it is adopted, and with the gate open behind it
+-- before it is adopted, and with the gate open after it
 abbrev foreign : Tape
 foreign = tape (a_file ++ base.end_entry) base.blank base.blank base.blank
 

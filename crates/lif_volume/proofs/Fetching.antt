@@ -1,4 +1,4 @@
--- A file that is read behind mounting.
+-- A file that is read after mounting.
 use Rattle.std.proofs.Common.{◌≡◌, ◌<◌, ◌≤◌, ◌+◌, ◌*◌, ◌++◌, ℕ, suc, zero, List, [], ◌∷◌, Bool, true, false, if◌then◌else◌, not, length, map, take, get_or, inl, inr, refl, sym, ap, subst, ◌∙◌, arith, append_assoc}
 use Rattle.std.specs.Prelude.{◌-◌, ◌&&◌, nat_lt, Option, Some, None, Result, Ok, IfSome, is_some, option_map, unwrap_or}
 use Rattle.std.specs.List.{position_or_len}

@@ -139,7 +139,7 @@ carrying_beside n (Batch parts) header (Err (Refused why)) = omega arith
 carrying_beside n (Batch parts) header (Err (Troubled trouble)) = omega arith
 carrying_beside n (Format label slots) header a = omega arith
 
--- with what is kept behind the answer
+-- with what is kept after the answer
 module _ {T : Type 0} (n : ℕ) (header : HeaderParts) (long : header.length + 5 ≤ n) (a : Result T VolumeFault) where
   few_bound : (old after : Option HeaderParts) → after ≡ (if keeps a then Some header else None) → mounting n old (Some header) + committing a ≤ mounting n old after + committing a
   few_bound old after is = go (keeps a) refl old
@@ -499,7 +499,7 @@ module _ {R S : Type 0} (view : R → RecordsView S) (x y : VolumeView R) (parts
         none_refused (Err (Refused why)) none = absurd none
         none_refused (Err (Troubled trouble)) none = tt
 
--- ---- behind mounting
+-- ---- after mounting
 
 pub few_mounted : (n : ℕ) (old : Option HeaderParts) (new : HeaderParts) → mounting n old (Some new) ≤ 71 + new.length
 few_mounted n None new = omega arith

@@ -52,7 +52,7 @@ module _ {S : Type 0} (v : RecordsView S) (t : Tape) (off : is_foreign_gated t �
           let both = settles_as_same t x c cs is off settles in record { records = settles.records ∙ length_settled t; volume = both.0; own_gate = both.1 } in
           record { stops = weaker _ _ _ _ _ _ run each; after = (after.0, after.1, each after.0 after.2) }
 
-  -- calls that write nothing come behind
+  -- calls that write nothing come after
   pub stays_reading : (w u : RecordsView S) → VolumeStays v w t → IsQuiet w u → VolumeStays v u t
   stays_reading w u stays quiet = record {
     stops = still _ _ _ _ _ _ _ quiet.moment quiet.since stays.stops;
@@ -76,7 +76,7 @@ module _ {S : Type 0} (v : RecordsView S) (t : Tape) where
     after = (settles.after.0, quiet.tape ∙ settles.after.1, settles.after.2);
   }
 
--- reads alone come behind
+-- reads alone come after
 pub reads_behind : (P : ℕ → Type 0) (old mid new : List Transfer → Type 0) → GoesOnBy P old mid → GoesOnBy (λ n. ⊥) mid new → GoesOnBy P old new
 reads_behind P old mid new first next = then_more P old mid new first (wider (λ n. ⊥) P mid new (λ n no. absurd no) next)
 
@@ -128,7 +128,7 @@ consults_nothing view x header n calls answer kept ready known =
 abbrev pub volume_on : Tape → Volume
 volume_on t = record { header = record_at t 0; slots = slots_of t; files = files_of t (slots_of t) }
 
--- the tape behind a command is the settled one
+-- the tape after a command is the settled one
 pub behind : (t u : Tape) (tape : Option Tape) → tape ≡ Some u → tape ≡ Some (settled t) → u ≡ settled t
 behind t u tape now settles = let both : Some u ≡ Some (settled t) = sym now ∙ settles in cc
 

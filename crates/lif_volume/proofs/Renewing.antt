@@ -65,7 +65,7 @@ room_is n size slots b same is on = ap (λ (k : ℕ). is_too_long k slots) (sym 
     go true e = cc
     go false e = refl
 
--- ---- behind mounting
+-- ---- after mounting
 
 -- more than mounting may ask for
 mounting_any : (n : ℕ) (old : Option HeaderParts) (header : HeaderParts) → header.length + 5 ≤ n → mounting n old (Some header) ≤ mounting n old None

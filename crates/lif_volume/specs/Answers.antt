@@ -30,7 +30,7 @@ IsLegalAs t (Ok _) = is_legal t ≡ true
 IsLegalAs t (Err (Refused _)) = is_legal t ≡ false
 IsLegalAs t (Err (Troubled _)) = Unit {0}
 
--- The answer and the volumes of the tapes before and behind are those of the command. Of a trouble
+-- The answer and the volumes of the tapes before and after are those of the command. Of a trouble
 -- nothing is said here.
 abbrev pub Answers : {T : Type 0} → ℕ → VolumeCommand → Tape → Tape → Result T VolumeFault → Type 0
 Answers n command t u (Ok _) = apply n command (volume_of t) ≡ (None, volume_of u)
@@ -38,7 +38,7 @@ Answers n command t u (Err (Refused why)) =
     apply n command (volume_of t) ≡ (Some why, volume_of u)
 Answers n command t u (Err (Troubled _)) = Unit {0}
 
--- whether it is kept behind this answer: behind an Ok and these refusals
+-- whether it is kept after this answer: after an Ok and these refusals
 abbrev pub keeps : {T : Type 0} → Result T VolumeFault → Bool
 keeps (Ok _) = true
 keeps (Err (Refused why)) = keeps_behind why
@@ -55,7 +55,7 @@ pub record HasVolumeOf (t x : Tape) : Type 0 where
   pub volume : volume_of x ≡ volume_of t
   pub own_gate : is_foreign_gated x ≡ false
 
--- the tape behind a command that changes no volume: the settled one, where the store did not fail
+-- the tape after a command that changes no volume: the settled one, where the store did not fail
 abbrev pub IsSettledAs : {T E : Type 0} → Tape → Option Tape → Result T E → Type 0
 IsSettledAs t tape (Ok _) = tape ≡ Some (settled t)
 IsSettledAs t tape (Err _) = Unit {0}

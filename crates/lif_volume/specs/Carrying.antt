@@ -87,7 +87,7 @@ file_count (Store name kind implementation bytes) = length (file_records bytes)
 file_count (Batch parts) = records_stored parts
 file_count command = 0
 
--- The file is written, on a told tape which is settled. Behind an Ok it stands, by one run.
+-- The file is written, on a told tape which is settled. After an Ok it stands, by one run.
 pub record PutsFileOn {S T : Type 0} (n : ℕ) (command : VolumeCommand) (v w : RecordsView S) (t : Tape) (answer : Result T Trouble) : Type 0 where
   pub stops : VolumeTurns n command v w t
   pub done : OnOk answer (w.tape ≡ Some (file_when n command (volume_of t) t))
@@ -112,7 +112,7 @@ changes_made start slots t = changes_by start (slots t) t
 
 pub record PutsOn {S T : Type 0} (n : ℕ) (command : VolumeCommand) (version : Version) (start : ℕ) (slots : Tape → SlotWrites) (v w : RecordsView S) (t : Tape) (answer : Result T Trouble) : Type 0 where
   pub stops : VolumeTurns n command v w t
-  -- behind an Ok the slots stand on the tape with the files
+  -- after an Ok the slots stand on the tape with the files
   pub done : OnOk answer ((u : Tape) × (w.tape ≡ Some u)
       × IsCommitted version (changes_made start slots (file_when n command (volume_of t) t)) (file_when n command (volume_of t) t) u)
   pub added : OnOk answer ((list : List Transfer) → v.transferred list → (more : List Transfer)

@@ -36,7 +36,7 @@ IsWrittenIfOk n command volume t u (Ok _) = IsWrittenOn n command volume t u
 IsWrittenIfOk n command volume t u (Err (Refused why)) = u ≡ t
 IsWrittenIfOk n command volume t u (Err (Troubled _)) = Unit {0}
 
--- the tape behind a refusal is the settled one; `format` refuses for want of room before it settles
+-- the tape after a refusal is the settled one; `format` refuses for want of room before it settles
 abbrev pub refused_tape : VolumeCommand → Refusal → Tape → Tape
 refused_tape (Format label slots) refusal.NoRoom t = t
 refused_tape command why t = settled t
@@ -46,7 +46,7 @@ abbrev pub IsWrittenAs : {T : Type 0} → ℕ → VolumeCommand → Tape → Tap
 IsWrittenAs n command t u (Err (Refused why)) = u ≡ refused_tape command why t
 IsWrittenAs n command t u answer = IsWrittenIfOk n command (volume_of t) (settled t) u answer
 
--- whether the directory is kept behind an answer, where it was kept before or not: `format` that is
+-- whether the directory is kept after an answer, where it was kept before or not: `format` that is
 -- refused for want of room leaves that, and a batch that is refused forgets it
 abbrev pub keeps_behind_command : {T : Type 0} → VolumeCommand → Bool → Result T VolumeFault → Bool
 keeps_behind_command (Format label slots) was (Err (Refused refusal.NoRoom)) = was
@@ -78,7 +78,7 @@ committing_on command t (c ∷ cs) (Ok _) = past_on command t (c ∷ cs) + commi
 committing_on command t (c ∷ cs) (Err (Troubled trouble)) =
     past_on command t (c ∷ cs) + commit_calls (has_open_gate t) (length (c ∷ cs))
 
--- A file lies behind the directory and below the redo file: beside a directory with this header,
+-- A file comes after the directory and below the redo file: beside a directory with this header,
 -- or any, it has at most so many records, and so have the files of a batch together.
 abbrev pub beside : ℕ → Option HeaderParts → ℕ
 beside n (Some header) = n - (header.length + 5)
@@ -142,13 +142,13 @@ changing n command old new answer = mounting n old new + committing answer
 
 -- ---- stops
 
--- the tape has the volume before the command, or the one behind it, which is well formed then, and no gate that is not ours
+-- the tape has the volume before the command, or the one after it, which is well formed then, and no gate that is not ours
 pub record HasEitherVolume (n : ℕ) (command : VolumeCommand) (t x : Tape) : Type 0 where
   pub records : length x ≡ length t
   pub volume : (volume_of x ≡ volume_of t) ⊎ (IsWellFormed command × (volume_of x ≡ (apply n command (volume_of t)).1))
   pub own_gate : is_foreign_gated x ≡ false
 
--- at any moment, and behind the call
+-- at any moment, and after the call
 pub record VolumeTurns {S : Type 0} (n : ℕ) (command : VolumeCommand) (v w : RecordsView S) (t : Tape) : Type 0 where
   pub stops : RunLeaves v w (HasEitherVolume n command t)
   pub after : (u : Tape) × (w.tape ≡ Some u) × HasEitherVolume n command t u
@@ -184,7 +184,7 @@ pub record AddsCommit (P : ℕ → Type 0) (kept : Bool) (n : ℕ) (command : Vo
   pub goes_on : (list : List Transfer) → old list → (first rest : List Transfer) × new (list ++ (first ++ rest))
       × WritesOnly P first × (kept ≡ true → first ≡ []) × IsFilesAndCommit n command volume t rest
 
--- behind an Ok so; behind a refusal by transfers that write only records that have P
+-- after an Ok so; after a refusal by transfers that write only records that have P
 abbrev pub AddsAsAnswered : {T : Type 0} → (ℕ → Type 0) → Bool → ℕ → VolumeCommand → Option Volume → Tape → (old new : List Transfer → Type 0) → Result T VolumeFault → Type 0
 AddsAsAnswered P kept n command volume t old new (Ok _) = AddsCommit P kept n command volume t old new
 AddsAsAnswered P kept n command volume t old new (Err (Refused why)) = GoesOnBy P old new
@@ -192,12 +192,12 @@ AddsAsAnswered P kept n command volume t old new (Err (Troubled _)) = Unit {0}
 
 -- ---- what is said of a command
 
--- the tape behind it
+-- the tape after it
 abbrev pub Writes : {R S T : Type 0} → VolumeCommand → (R → RecordsView S) → (old new : VolumeView R) → Result T VolumeFault → Type 0
 Writes command view old new answer = (t u : Tape) → IsTold view old t → IsTold view new u
     → IsWrittenAs (view old.records).record_count command t u answer
 
--- of a tape that is not foreign-gated: the volume before or behind, at any moment and behind the call
+-- of a tape that is not foreign-gated: the volume before or after, at any moment and after the call
 abbrev pub TurnsVolume : {R S : Type 0} → VolumeCommand → (R → RecordsView S) → (old new : VolumeView R) → Type 0
 TurnsVolume command view old new = (t : Tape) → IsTold view old t → is_foreign_gated t ≡ false
     → VolumeTurns (view old.records).record_count command (view old.records) (view new.records) t

@@ -55,7 +55,7 @@ reading slots name (Err (Refused why)) = 0
 reading slots name (Ok _) = records_named slots name
 reading slots name (Err (Troubled trouble)) = records_named slots name
 
--- the same as mounting, with the records of a file behind them
+-- the same as mounting, with the records of a file after them
 abbrev pub fetching : {T : Type 0} → ℕ → List ℕ → Option HeaderParts → List (List ℕ) → Result T VolumeFault → ℕ
 fetching n name (Some old) slots answer = reading slots name answer
 fetching n name None slots answer = n + 70
@@ -80,7 +80,7 @@ IsReadyForBatch view volume = IsReady (batch_calls_needed (view volume.records).
 
 -- A command that changes no volume. It reads and writes so many records at most, and on a told tape
 -- so many, and where that is none the store is as it was; where the store did not fail the tape is
--- the settled one; and the directory is kept behind all answers but a trouble and NotLif.
+-- the settled one; and the directory is kept after all answers but a trouble and NotLif.
 pub record Consults {R S T : Type 0} (calls : ℕ) (calls_on : Tape → ℕ) (view : R → RecordsView S)
     (old new : VolumeView R) (answer : Result T VolumeFault) : Type 0 where
   pub goes_on : GoesOn calls (view old.records) (view new.records) (store_answer answer)
@@ -91,7 +91,7 @@ pub record Consults {R S T : Type 0} (calls : ℕ) (calls_on : Tape → ℕ) (vi
       → IsSettledAs t (view new.records).tape (store_answer answer)
   pub kept : is_some new.kept ≡ keeps answer
 
--- of a tape that is not foreign-gated: its volume stays, at any moment and behind the call
+-- of a tape that is not foreign-gated: its volume stays, at any moment and after the call
 pub record VolumeStays {S : Type 0} (v w : RecordsView S) (t : Tape) : Type 0 where
   pub stops : RunLeaves v w (HasVolumeOf t)
   pub after : (u : Tape) × (w.tape ≡ Some u) × HasVolumeOf t u
@@ -153,7 +153,7 @@ MountsAndReads name view old new answer =
     Consults (fetching (view old.records).record_count name old.kept (map slot_bytes old.slots) answer)
     (λ t. fetching_on t name old.kept answer) view old new answer
 
--- the answer and the volume behind it are those of the command
+-- the answer and the volume after it are those of the command
 abbrev pub AnswersTo : {R S T : Type 0} → VolumeCommand → (R → RecordsView S) → (old new : VolumeView R) → Result T VolumeFault → Type 0
 AnswersTo command view old new answer = (t u : Tape) → IsTold view old t → IsTold view new u
     → Answers (view old.records).record_count command t u answer
@@ -162,7 +162,7 @@ AnswersTo command view old new answer = (t u : Tape) → IsTold view old t → I
 abbrev pub IsRefusedExactly : {R S T : Type 0} → (R → RecordsView S) → VolumeView R → Result T VolumeFault → Type 0
 IsRefusedExactly view old answer = (t : Tape) → IsTold view old t → IsLegalAs (settled t) answer
 
--- the volume stays, at any moment and behind the call
+-- the volume stays, at any moment and after the call
 abbrev pub KeepsVolume : {R S : Type 0} → (R → RecordsView S) → (old new : VolumeView R) → Type 0
 KeepsVolume view old new = (t : Tape) → IsTold view old t → is_foreign_gated t ≡ false
     → VolumeStays (view old.records) (view new.records) t

@@ -64,7 +64,7 @@ pub record Reads {R S T : Type 0} (command : VolumeCommand) (view : R → Record
 -- ---- a command that changes the volume
 
 -- It settles the tape, writes the file of a store or those of a batch, and makes one commit at most. Where it may make no call, or has
--- neither a file nor a change, the store is as it was. A stop at any moment leaves the volume before or the one behind, where the tape is not foreign-gated, and so does
+-- neither a file nor a change, the store is as it was. A stop at any moment leaves the volume before or the one after, where the tape is not foreign-gated, and so does
 -- a trouble. Of a tape whose gate record, once it is settled, a file holds that is not ours it changes nothing but by
 -- settling.
 pub record Alters {R S T : Type 0} (command : VolumeCommand) (view : R → RecordsView S) (old new : VolumeView R) (answer : Result T VolumeFault) : Type 0 where

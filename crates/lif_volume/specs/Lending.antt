@@ -8,6 +8,6 @@ use Rattle.lif_volume.specs.contracts.volume.Volume.{the_row}
 abbrev pub with_records : {R : Type 0} → Volume R → R → Volume R
 with_records volume records = record volume { records = records; kept = None }
 
--- the volume ends with the last store behind r
+-- the volume ends with the last store after r
 abbrev pub LendsRecords : (R : RattleType) → MutBor (Volume R.Denot) → MutBor R.Denot → Fml
 LendsRecords R volume r = Lends (the_row R) R volume r (with_records volume.now)

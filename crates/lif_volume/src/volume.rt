@@ -94,6 +94,13 @@ impl<R: Records> Volume<R> {
         }
     }
 
+    /// What record 0 says, if it and the directory are kept from the last command.
+    pub fn header(&self) -> Option<Header>
+        ensures { result ≡ (seen self.now).kept }
+    {
+        self.kept
+    }
+
     /// Whether record 0 and the directory are kept from the last command.
     pub fn is_kept(&self) -> bool
         ensures { result ≡ is_some (seen self.now).kept }

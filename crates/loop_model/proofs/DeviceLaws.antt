@@ -22,7 +22,7 @@ each_weaker R S weaker party (d ∷ ds) (e ∷ es) h = (weaker party d e h.0, ea
 each_weaker R S weaker party [] (e ∷ es) h = absurd h
 each_weaker R S weaker party (d ∷ ds) [] h = absurd h
 
--- one step behind the other
+-- one step after the other
 pub each_then : (R S T : ℕ → DeviceState → DeviceState → Type 0) → ((party : ℕ) (d e f : DeviceState) → R party d e → S party e f → T party d f)
     → (party : ℕ) (ds es fs : List DeviceState) → EachBecomes R party ds es → EachBecomes S party es fs → EachBecomes T party ds fs
 each_then R S T join party [] [] [] a b = tt

@@ -190,7 +190,7 @@ lost_before_2 = (refl, refl, refl)
 taken_by_1 : (is_reached 0 (outcome.Taken 1) 1 ≡ true) × (is_reached 0 (outcome.Taken 1) 2 ≡ false)
 taken_by_1 = (refl, refl)
 
--- of two devices, the first is one link behind the host, two before it, and three links from itself
+-- of two devices, the first is one link after the host, two before it, and three links from itself
 distances : (distance 2 0 1 ≡ 1) × (distance 2 1 0 ≡ 2) × (distance 2 1 1 ≡ 3)
 distances = (refl, refl, refl)
 
@@ -302,7 +302,7 @@ poll = refl
 poll_asks : is_exchange ring (Identify (framed class.Isr 1)) ≡ true
 poll_asks = refl
 
--- AAD comes back behind as many numbers as there are devices: on two devices AAD 01 does not come back
+-- AAD comes back after as many numbers as there are devices: on two devices AAD 01 does not come back
 -- as AAD 04, nor as AAD 02
 counts_devices : (is_exchange ring (Address 2) ≡ true) × (is_exchange ring (Address 3) ≡ false) × (is_exchange ring (Address 1) ≡ false)
 counts_devices = (refl, refl, refl)
@@ -346,7 +346,7 @@ host_altered = record { reading = record { pieces = Cut (Send 2 None (echo 5 ∷
 ete_lost : is_piece ring (Cut asking 6 (TalkerAltered (dab 1) (outcome.Lost 2))) ≡ true
 ete_lost = refl
 
--- no break stands behind the last entry; a command that came back altered, a byte that came back the
+-- no break comes after the last entry; a command that came back altered, a byte that came back the
 -- same, ETE that comes back or that a device takes, and ETE after a byte of the host are none
 no_breaks : (is_piece ring (Cut (Command ifc) 2 (FrameLost 1)) ≡ false) × (is_piece ring (Cut (Command ifc) 0 (HostAltered aau)) ≡ false) × (is_piece ring (Cut asking 6 (TalkerAltered (framed class.Dsr 0) (outcome.Taken 0))) ≡ false) × (is_piece ring (Cut asking 6 (TalkerAltered (dab 1) (outcome.Back ete))) ≡ false) × (is_piece ring (Cut asking 6 (TalkerAltered (dab 1) (outcome.Taken 2))) ≡ false) × (is_piece ring (Cut (Send 2 None (echo 5 ∷ [])) 4 (TalkerAltered (dab 4) (outcome.Taken 0))) ≡ false)
 no_breaks = (refl, refl, refl, refl, refl, refl)
@@ -422,7 +422,7 @@ heard_whole = refl
 unheard : (heard_by 2 1 ready_roles (entries_of 0 (Send 2 None (echo 0x48 ∷ []))) ≡ []) × (heard_by 2 2 ready_roles (entries_of 0 (Send 1 None (echo 0x48 ∷ []))) ≡ [])
 unheard = (refl, refl)
 
--- a byte that was lost behind it, or altered before it, is none of a whole entry
+-- a byte that was lost after it, or altered before it, is none of a whole entry
 heard_lost : heard_by 2 2 ready_roles (cut_at (entries_of 0 (Send 2 None (echo 0x48 ∷ echo 0x49 ∷ []))) 5 (FrameLost 0)) ≡ 0x48 ∷ []
 heard_lost = refl
 

@@ -96,7 +96,7 @@ module _ (l : Loop) where
       let altered = (and_parts (is_altered due.frame f) (is_end l.controller end) parts.1).0 in
       rw altered refl
 
-  cut_falls : (es : List Entry) (n : ℕ) (b : Break) → can_cut l.controller es n b ≡ true → list_all stands (cut_at es n b) ≡ false
+  pub cut_falls : (es : List Entry) (n : ℕ) (b : Break) → can_cut l.controller es n b ≡ true → list_all stands (cut_at es n b) ≡ false
   cut_falls [] n b e = cc
   cut_falls (due ∷ es) zero b e = break_falls due b e
   cut_falls (due ∷ es) (suc n) b e = and_right (stands due) _ (cut_falls es n b e)

@@ -227,7 +227,7 @@ met-split (hop ∷ hops) a b c ab bc =
 
 -- ---- the counts of a ring
 
--- more entries add their crossings, whatever frame is held behind them
+-- more entries add their crossings, whatever frame is held after them
 pub links_so_far-append : (k : ℕ) (first second : List Entry) (held : Option ℕ) → links_so_far k (first ++ second) held ≡ sum_by (links_of k) first + links_so_far k second held
 links_so_far-append k first second held = let sums = sum_by-append (links_of k) first second in rw sums (omega arith)
 

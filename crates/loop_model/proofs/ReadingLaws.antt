@@ -170,7 +170,7 @@ module _ (size drive : ℕ) where
   data_not_command : (d : Echo) (f : Frame) → is_host_echo d ≡ true → is_data_class f.class ≡ false → d.sent ≡ f → ⊥
   data_not_command d f echo other e = both_ways _ (ap (λ (g : Frame). is_data_class g.class) e ∙ other) (host_data d echo)
 
-  -- two sends are equal behind their addresses, and so is what follows
+  -- two sends are equal after their addresses, and so is what follows
   send_rests : (m n : Option ℕ) (d e : Echo) (ds es : List Echo) (xs ys : List Exchange) → list_all is_host_echo (d ∷ ds) ≡ true → list_all is_host_echo (e ∷ es) ≡ true → list_all is_sure xs ≡ true → list_all is_sure ys ≡ true → (numbered 0 ddl m ++ (map (echoed 0) (d ∷ ds) ++ all_entries xs)) ≡ (numbered 0 ddl n ++ (map (echoed 0) (e ∷ es) ++ all_entries ys)) → (m ≡ n) × ((d ∷ ds) ≡ (e ∷ es)) × (all_entries xs ≡ all_entries ys)
   send_rests None None d e ds es xs ys hd he sx sy eq = let rest = host_lists (d ∷ ds) (e ∷ es) xs ys hd he sx sy eq in (refl, rest.0, rest.1)
   send_rests (Some m) (Some n) d e ds es xs ys hd he sx sy eq =

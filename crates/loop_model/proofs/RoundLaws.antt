@@ -29,7 +29,7 @@ use Rattle.loop_model.proofs.TalkLaws.{gives_no_aau, are_numbered-log, talkers-t
 
 -- ---- logs that may break off anywhere
 
--- however the frame ends, at most one device talks behind it
+-- however the frame ends, at most one device talks after it
 abbrev pub IsCalm : List Roles → Entry → Type 0
 IsCalm rs e = (o : Outcome) → is_at_most_one (talkers (roles_after_entry rs (entry e.source e.frame o))) ≡ true
 
@@ -387,7 +387,7 @@ answer_held s (Stopped q ds last) p e legal =
     (list_all-append (is_held q) (map (echoed q) ds) (returned 0 nrd ∷ echoed q last ∷ entry q eto (outcome.Taken 0) ∷ [])
     ∙ and_from _ _ (echoes_held q ds echoes.0) (and_from _ _ (echo_held q last echoes.1) (and_from _ _ (eto_held q) refl))))
 
--- behind the talk address of a device that then answers
+-- after the talk address of a device that then answers
 safe_answer : (rs : List Roles) (number : Option ℕ) (s : Start) (answer : Answer) (p : ℕ) → talkers rs ≡ p ∷ [] → answering answer ≡ Some p →
     is_number number ≡ true → is_answer 0 answer ≡ true →
     IsSafe rs (returned 0 rfc ∷ (numbered 0 ddt number ++ (answer_entries 0 (start_frame s) answer ++ commanded 0 unt)))
@@ -401,7 +401,7 @@ safe_answer rs number s answer p talks who low legal =
     subst (λ (es : List Entry). IsSafe rs (returned 0 rfc ∷ es)) (append_assoc (numbered 0 ddt number) (answer_entries 0 (start_frame s) answer) (commanded 0 unt))
     (safe_append rs middle (commanded 0 unt) safe.0 (safe_mute (roles_after rs middle) (commanded 0 unt) (ap is_at_most_one safe.1) refl refl))
 
--- behind a talk address to which nobody answers
+-- after a talk address to which nobody answers
 safe_unanswered : (rs : List Roles) (number : Option ℕ) (s : Start) → is_at_most_one (talkers rs) ≡ true → is_number number ≡ true →
     IsSafe rs (returned 0 rfc ∷ (numbered 0 ddt number ++ (returned 0 (start_frame s) ∷ commanded 0 unt)))
 safe_unanswered rs number s one low =
@@ -464,7 +464,7 @@ abbrev pub exchange_in : Piece → Exchange
 exchange_in (Whole x) = x
 exchange_in (Cut x n b) = x
 
--- ---- addresses behind an exchange
+-- ---- addresses after an exchange
 
 -- the exchange is not the command AAU
 abbrev pub keeps_addresses : Exchange → Bool

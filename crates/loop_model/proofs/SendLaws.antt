@@ -74,7 +74,7 @@ message_of-lad a low =
 listens_by : (a : ℕ) (r : Roles) → is_own r.address a ≡ true → (roles_by (msg.Lad a) r).listens ≡ true
 listens_by a r own = rw own refl
 
--- behind its listen address, the numbered device listens
+-- after its listen address, the numbered device listens
 pub listens-lad : (rs : List Roles) (a : ℕ) → are_numbered 1 rs ≡ true → is_address a ≡ true → 1 ≤ a → a ≤ length rs →
     (roles_at a (roles_after_entry rs (returned 0 (lad a)))).listens ≡ true
 listens-lad rs a numbers low some here =

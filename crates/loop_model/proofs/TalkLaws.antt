@@ -123,7 +123,7 @@ talk_along o party a (r ∷ rs) numbers quiet low high reached =
           (tad_passes o party (suc party) a rs ∙ talk_along o (suc party) a rs own.1 silent.1 (omega (arith, low, other)) (omega (arith, high)) reached)
     ]
 
--- behind a talk address that reached its device, where each device has its number as address and none
+-- after a talk address that reached its device, where each device has its number as address and none
 -- talked, that device alone talks
 pub talkers-tad : (rs : List Roles) (a : ℕ) (e : Entry) → are_numbered 1 rs ≡ true → talkers rs ≡ [] → e.source ≡ 0 →
     message_of e.frame ≡ msg.Tad a → 1 ≤ a → a ≤ length rs → is_reached 0 e.outcome a ≡ true → talkers (roles_after_entry rs e) ≡ a ∷ []

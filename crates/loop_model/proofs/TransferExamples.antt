@@ -180,7 +180,7 @@ torn any full = record {
       torn = record { records = refl; bytes = full; elsewhere = λ k other. others_stay blank any k other };
     }
 
--- but the record behind it is as before
+-- but the record after it is as before
 behind_stays : (old new : Tape) → PartlyReplaced 1 (sevens ∷ []) old new → record_at new 2 ≡ record_at old 2
 behind_stays old new p = by_count p.count p.in_range p.replaced p.torn
   where
@@ -214,7 +214,7 @@ by_one = refl
 spoilt : (carries transfer_of is_out (write_unit 4 sevens 0 ∷ write_unit 4 blank 2 ∷ []) 4 sevens ≡ false) × (carries transfer_of is_out (write_unit 5 ones 0 ∷ write_unit 4 sevens 0 ∷ []) 4 (sevens ++ ones) ≡ false) × (carries transfer_of is_out (write_unit 4 sevens 0 ∷ []) 4 (replicate 255 7) ≡ false) × (carries transfer_of is_out (write_unit 4 sevens 1 ∷ []) 4 sevens ≡ false)
 spoilt = (refl, refl, refl, refl)
 
--- a later write beside the record, before it or behind it, and a later read of it do not
+-- a later write beside the record, before it or after it, and a later read of it do not
 unspoilt : (carries transfer_of is_out (write_unit 4 sevens 0 ∷ write_unit 3 blank 0 ∷ write_unit 5 blank 0 ∷ []) 4 sevens ≡ true) × (carries transfer_of is_out (write_unit 4 sevens 0 ∷ read_unit 4 ones 0 ∷ []) 4 sevens ≡ true)
 unspoilt = (refl, refl)
 

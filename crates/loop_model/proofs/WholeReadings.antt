@@ -1,33 +1,20 @@
 -- A log that reads as whole exchanges reads as no others, so its units are those of the list of its transfers.
-use Rattle.std.proofs.Common.{◌≡◌, ◌∙◌, ◌&&◌, ◌==◌, ℕ, zero, suc, true, false, not, List, [], ◌∷◌, map, refl, sym, ap}
+use Rattle.std.proofs.Common.{◌≡◌, ◌∙◌, ◌&&◌, ℕ, true, false, List, [], ◌∷◌, map, refl, sym, ap}
 use Rattle.std.specs.Prelude.{flat_map}
 use Rattle.std.specs.List.{list_all}
-use Rattle.std.proofs.lemmas.Bool.{and_parts, and_right}
+use Rattle.std.proofs.lemmas.Bool.{and_parts}
 use Rattle.std.proofs.lemmas.List.Folds.{list_all-append}
 use Rattle.il_frames.specs.declared.entry.Entry.{Entry}
 use Rattle.lif_model.specs.Transfers.{Transfer, are_carried_out, are_carried_in, carries}
 use Rattle.loop_model.specs.Effect.{is_out, is_in, transfer_of, all_good, Transferred}
 use Rattle.loop_model.proofs.EffectLaws.{carries-out, carries-in}
-use Rattle.loop_model.specs.Exchanges.{Break, FrameLost, HostAltered, TalkerAltered, Piece, Whole, Cut, Reading, IsWhole, are_whole, break_entries, can_cut, cut_at, entries_of, is_altered, is_break, is_end, is_exchange, is_piece, piece_entries}
-use Rattle.loop_model.proofs.ExchangeLaws.{stands, whole_stands}
+use Rattle.loop_model.specs.Exchanges.{Piece, Whole, Cut, Reading, IsWhole, are_whole, can_cut, cut_at, entries_of, is_exchange, is_piece, piece_entries}
+use Rattle.loop_model.proofs.ExchangeLaws.{stands, cut_falls, whole_stands}
 use Rattle.loop_model.proofs.ReadingLaws.{units_of-whole}
 use Rattle.loop_model.specs.Loops.{Loop, host_loop}
 use Rattle.loop_model.specs.Units.{units_of}
 
 module _ (l : Loop) where
-  break_falls : (due : Entry) (b : Break) → is_break l.controller due b ≡ true → list_all stands (break_entries due b) ≡ false
-  break_falls due (FrameLost q) e = refl
-  break_falls due (HostAltered f) e = rw ((and_parts (due.source == l.controller) (is_altered due.frame f) e).1) refl
-  break_falls due (TalkerAltered f end) e =
-      let parts = and_parts (not (due.source == l.controller)) (is_altered due.frame f && is_end l.controller end) e in
-      let altered = (and_parts (is_altered due.frame f) (is_end l.controller end) parts.1).0 in
-      rw altered refl
-
-  cut_falls : (es : List Entry) (n : ℕ) (b : Break) → can_cut l.controller es n b ≡ true → list_all stands (cut_at es n b) ≡ false
-  cut_falls [] n b e = cc
-  cut_falls (due ∷ es) zero b e = break_falls due b e
-  cut_falls (due ∷ es) (suc n) b e = and_right (stands due) _ (cut_falls es n b e)
-
   -- exchanges whose entries all stand are whole
   standing_whole : (ps : List Piece) → list_all (is_piece l) ps ≡ true → list_all stands (flat_map (piece_entries l.controller) ps) ≡ true → are_whole ps ≡ true
   standing_whole [] legal stand = refl
@@ -38,7 +25,7 @@ module _ (l : Loop) where
   standing_whole (Cut x n b ∷ ps) legal stand =
       let parts = and_parts (is_exchange l x && can_cut l.controller (entries_of l.controller x) n b) (list_all (is_piece l) ps) legal in
       let both = and_parts (list_all stands (cut_at (entries_of l.controller x) n b)) (list_all stands (flat_map (piece_entries l.controller) ps)) (sym (list_all-append stands (cut_at (entries_of l.controller x) n b) (flat_map (piece_entries l.controller) ps)) ∙ stand) in
-      let falls = cut_falls (entries_of l.controller x) n b (and_parts (is_exchange l x) _ parts.0).1 in
+      let falls = cut_falls l (entries_of l.controller x) n b (and_parts (is_exchange l x) _ parts.0).1 in
       let clash : true ≡ false = sym both.0 ∙ falls in
       cc
 

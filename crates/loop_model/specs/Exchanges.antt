@@ -148,7 +148,7 @@ is_answer c (ToItsEnd p data_frames) =
 is_answer c (Stopped p data_frames last) = not (p == c) && (list_all is_echo data_frames && is_echo last)
 
 -- the value is an exchange on this ring: among others, no command gives a talk address outside a
--- receive, and AAD comes back behind as many numbers as the ring has devices
+-- receive, and AAD comes back after as many numbers as the ring has devices
 abbrev pub is_exchange : Loop → Exchange → Bool
 is_exchange l (Command f) = same_class (class_of f) class.Cmd && not (is_talk_address (message_of f))
 is_exchange l (Address devices) = devices == l.devices

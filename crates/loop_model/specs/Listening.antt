@@ -1,4 +1,4 @@
--- What a device hears of bytes that are sent to it, one behind the other.
+-- What a device hears of bytes that are sent to it, one after the other.
 use Rattle.std.specs.Prelude.{◌≡◌, ◌≤◌, ◌++◌, ℕ, List, length, take}
 use Rattle.il_device.specs.State.{DeviceState, risen_by}
 use Rattle.il_device.specs.Takes.{kept_all}

@@ -20,7 +20,7 @@ poll_unconfigure = command 0x15
 abbrev pub poll_place : ℕ → Option Assignment
 poll_place party = if nat_le party 8 then Some (record { bit = party - 1; sense = true }) else None
 
--- the identify frame behind devices that have these places, of which the first is that party
+-- the identify frame after devices that have these places, of which the first is that party
 abbrev pub polled_along : ℕ → List DeviceState → Frame → Frame
 polled_along party [] f = f
 polled_along party (d ∷ ds) f = polled_along (party + 1) ds (identified (poll_place party) d.wants f)

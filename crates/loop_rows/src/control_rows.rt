@@ -22,7 +22,7 @@ const SENT: [&str; 11] = [
 /// The links that are crossed by then: three a frame.
 const LINKS: u64 = 33;
 
-/// The controller of a new ring of the drive and this printer behind it.
+/// The controller of a new ring of the drive and this printer after it.
 fn controller(
     rt: &(impl Abort + AllocGlobal),
     printer: Box<dyn Device>,
@@ -92,7 +92,7 @@ fn nothing_planned(rt: HostRuntime) -> Result<(), Fail> {
     Ok(())
 }
 
-/// The log of a send that broke off behind so many frames, the last of which ended so, and what the printer heard.
+/// The log of a send that broke off after so many frames, the last of which ended so, and what the printer heard.
 fn compare_broken(
     rt: &impl Abort,
     ring: &Ring<MemoryMedium>,
@@ -133,7 +133,7 @@ fn lost_at_each_crossing(rt: HostRuntime) -> Result<(), Fail> {
     Ok(())
 }
 
-/// A data frame that is altered is heard so behind the fault, and the send breaks off.
+/// A data frame that is altered is heard so after the fault, and the send breaks off.
 #[test]
 fn altered_bytes(rt: HostRuntime) -> Result<(), Fail> {
     let rows: [(u64, usize, &str, &[u8]); 6] = [
@@ -166,7 +166,7 @@ struct Call {
     room: usize,
     /// The bytes that came, or none where it broke off.
     came: Option<&'static [u8]>,
-    /// The entries behind those of the addressing.
+    /// The entries after those of the addressing.
     log: &'static [&'static str],
 }
 
@@ -428,7 +428,7 @@ fn receive(
     }
 }
 
-/// The entries behind those of the addressing.
+/// The entries after those of the addressing.
 fn received<'a>(rt: &impl Abort, log: &'a [Entry]) -> &'a [Entry] {
     log.get(5..).expect(rt, "entries")
 }

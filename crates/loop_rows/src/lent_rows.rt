@@ -141,7 +141,7 @@ fn compare_found(rt: &impl Abort, found: [Option<u8>; 31]) {
     }
 }
 
-/// A second controller behind 29 devices asks them all. A round has two frames, and of each address seven, or nine
+/// A second controller after 29 devices asks them all. A round has two frames, and of each address seven, or nine
 /// where it tells a status.
 #[test]
 fn among_thirty_devices(rt: HostRuntime) -> Result<(), Fail> {

@@ -194,7 +194,7 @@ fn written_with(
     Ok(answer)
 }
 
-/// Whether a record of these bytes stands where the fault was planned behind the crossing at which its last byte came
+/// Whether a record of these bytes stands where the fault was planned after the crossing at which its last byte came
 /// to the drive, and else nothing; at that crossing an altered last byte is the only one that is another.
 fn stands(record: &[u8], byte: u8, end: u64, planned: Planned) -> bool {
     let altered = planned.hop == end && planned.fault == Alter(4);
@@ -222,7 +222,7 @@ fn faults_at_every_crossing(rt: HostRuntime) -> Result<(), Fail> {
     // Addressing and clearing have 11 frames of two links each, the seek has 8, and the commands of the write 6.
     let first = 2 * (11 + 8 + 6 + 255) + 1;
     let second = first + 512;
-    // The poll of the status behind the last byte crosses 18 links.
+    // The poll of the status after the last byte crosses 18 links.
     let last = second + 19;
     for hop in 23..=last {
         for fault in [Lose, Alter(4)] {
@@ -251,7 +251,7 @@ fn write_fails(rt: &impl Abort, records: &mut LoopRecords<MemoryMedium>)
 }
 
 /// A medium that fails to write record k of a run of three, 1 to 3: the answer is a fault of the medium, the exchanges
-/// are whole, the records before it stand, it holds what the medium left, and those behind it are as before.
+/// are whole, the records before it stand, it holds what the medium left, and those after it are as before.
 fn failing_write(rt: &(impl Abort + AllocGlobal), k: usize) -> Result<(), Fail>
     requires { (1 ≤ k) × (k ≤ 3) }
 {
@@ -267,7 +267,7 @@ fn failing_write(rt: &(impl Abort + AllocGlobal), k: usize) -> Result<(), Fail>
     Ok(())
 }
 
-/// One that fails to read record k of a run of three: the receive ends behind the records before it, without NRD, and
+/// One that fails to read record k of a run of three: the receive ends after the records before it, without NRD, and
 /// the status tells it.
 fn failing_read(rt: &(impl Abort + AllocGlobal), k: usize) -> Result<(), Fail>
     requires { (1 ≤ k) × (k ≤ 3) }
@@ -310,7 +310,7 @@ pub(crate) fn status(
     records.drive_status()
 }
 
-/// A drive that failed to read, and whose poll was lost: it tells status 1 once, with bit 6 set, and 0 behind that.
+/// A drive that failed to read, and whose poll was lost: it tells status 1 once, with bit 6 set, and 0 after that.
 #[test]
 fn tells_the_status_once(rt: HostRuntime) -> Result<(), Fail> {
     // Addressing and clearing have 11 frames of two links each, the seek has 8, and the receive that ends at once 9.

@@ -168,7 +168,7 @@ const ROWS: [Row; 19] = [
         (2, 121),
         14,
     ),
-    // Purged slots go: in front, between and after, behind the redo entry alone, and with numbers of no medium.
+    // Purged slots go: in front, between and after, after the redo entry alone, and with numbers of no medium.
     (
         1,
         &[

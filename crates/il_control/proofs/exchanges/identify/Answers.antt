@@ -1,7 +1,7 @@
 use Rattle.std.proofs.Common.{ap}
 use Rattle.il_guest.specs.Frames.{tct}
 use Rattle.il_frames.specs.NamedFrames.{is_frame}
-use Rattle.il_ring.proofs.LedRounds.{host_keeps}
+use Rattle.il_ring.proofs.ControlledRounds.{host_keeps}
 use Rattle.il_control.proofs.Places.{identify_stay}
 use Rattle.il_control.proofs.Polls.{identify_call}
 use Rattle.il_control.proofs.exchanges.identify.Goals as goal

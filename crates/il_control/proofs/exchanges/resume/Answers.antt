@@ -2,7 +2,7 @@ use Rattle.std.proofs.Common.{◌∙◌, ap, refl}
 use Rattle.il_frames.specs.Frames.{byte_of}
 use Rattle.il_guest.specs.Frames.{tct}
 use Rattle.il_frames.specs.NamedFrames.{is_frame}
-use Rattle.il_ring.proofs.LedRounds.{host_keeps}
+use Rattle.il_ring.proofs.ControlledRounds.{host_keeps}
 use Rattle.il_control.proofs.Addressing.{address_call, count_of, not_cleared}
 use Rattle.il_control.proofs.Places.{address_stay}
 use Rattle.il_control.proofs.exchanges.resume.Goals as goal

@@ -1,7 +1,7 @@
 use Rattle.std.proofs.Common.{◌∙◌, ap, refl}
 use Rattle.il_guest.specs.Frames.{tct}
 use Rattle.il_frames.specs.NamedFrames.{is_frame}
-use Rattle.il_ring.proofs.LedRounds.{host_keeps}
+use Rattle.il_ring.proofs.ControlledRounds.{host_keeps}
 use Rattle.il_control.specs.Receives.{start_of}
 use Rattle.il_control.proofs.Beginning.{start_hands, start_call, passed_begins, taken_begins, lost_begins, none_held, some_held}
 use Rattle.il_control.proofs.receiving.begin.Goals as goal

@@ -1,7 +1,7 @@
 use Rattle.std.proofs.Common.{refl, ap}
 use Rattle.il_guest.specs.Frames.{tct}
 use Rattle.il_frames.specs.NamedFrames.{is_frame}
-use Rattle.il_ring.proofs.LedRounds.{host_keeps}
+use Rattle.il_ring.proofs.ControlledRounds.{host_keeps}
 use Rattle.il_control.proofs.Bytes.{byte_done}
 use Rattle.il_control.proofs.rounds.byte_round.Goals as goal
 

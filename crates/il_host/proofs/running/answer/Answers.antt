@@ -3,7 +3,8 @@ use Rattle.il_script.specs.declared.reply.Reply.TheVariants as reply
 use Rattle.lif_dir.specs.Batches.{parts_of}
 use Rattle.host_model.specs.Orders.{quiet_mode}
 use Rattle.il_host.specs.Run.{Answers, item_asked}
-use Rattle.il_host.specs.Writing.{WritesAll, told_text}
+use Rattle.il_ports.specs.Writing.{WritesAll}
+use Rattle.il_host.specs.Writing.{told_text}
 use Rattle.il_host.specs.declared.running.Asked.{Asked}
 use Rattle.il_host.proofs.Asking.{answers_command, answers_no_command}
 use Rattle.il_host.proofs.running.answer.Goals as goal

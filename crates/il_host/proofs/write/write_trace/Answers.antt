@@ -6,7 +6,8 @@ use Rattle.il_frames.specs.declared.frame.Class.TheVariants.{Dab}
 use Rattle.il_frames.specs.Entries.{entry_text}
 use Rattle.il_script.specs.Replies.{text_line}
 use Rattle.host_model.specs.Replies.{trace_text}
-use Rattle.il_host.specs.Writing.{WritesAll, Waits}
+use Rattle.il_ports.specs.Writing.{WritesAll}
+use Rattle.il_host.specs.Writing.{Waits}
 use Rattle.il_host.proofs.Known.{stopped_as, stopped_within, waits_stopped, waits_then, waits_more, waits_written, trace-split, trace-more}
 use Rattle.il_host.proofs.write.write_trace.Goals as goal
 

@@ -6,7 +6,7 @@ use Rattle.il_ring.specs.Journeys.{trip_of}
 use Rattle.il_ring.specs.Lending.{leads}
 use Rattle.il_ring.specs.Rings.{RingView, drive_party}
 use Rattle.il_ring.specs.Seen.{parts_seen}
-use Rattle.il_ring.proofs.LedWalks.{ifc_comes_grows, keeps_same, led_from_walks, led_round_at, left_home, passes_none}
+use Rattle.il_ring.proofs.ControlledWalks.{ifc_comes_grows, keeps_same, controlled_from_walks, controlled_round_at, left_home, passes_none}
 use Rattle.il_ring.proofs.ring.Ring.round_clear.Goals as goal
 
 pub home_clear-requires-clause-room : goal.home_clear-requires-clause-room
@@ -28,8 +28,8 @@ returns g c =
     let seen = ap (parts_seen (λ b. (goal.Device-dyn g (b.vtable, b.value)).state b.value)) c.deref_mut.ensures.value in
     let alone = ap (λ (r : RingView _). r.guest) seen ∙ c.requires.alone in
     let there = c.walk_past_clear-on-2.new.books in
-    led_round_at g.M.Medium.view _ _ _ _ _ seen
-    (led_from_walks g.M.Medium.view _ _ _ _ _ _ _ _ _ _ c.deref_mut.result.now.books c.walk_past_clear-on.new.books c.pass_drive_clear-on.new.books there c.args.flight (Some c.walk_past_clear-on.result) (Some c.pass_drive_clear-on.result) (Some c.walk_past_clear-on-2.result)
+    controlled_round_at g.M.Medium.view _ _ _ _ _ seen
+    (controlled_from_walks g.M.Medium.view _ _ _ _ _ _ _ _ _ _ c.deref_mut.result.now.books c.walk_past_clear-on.new.books c.pass_drive_clear-on.new.books there c.args.flight (Some c.walk_past_clear-on.result) (Some c.pass_drive_clear-on.result) (Some c.walk_past_clear-on-2.result)
     c.walk_past_clear-on.ensures.books c.pass_drive_clear-on.ensures.books c.walk_past_clear-on-2.ensures.books (c.party-party.ensures.party ∙ sym (ap (λ (r : RingView _). drive_party r) seen))
     c.walk_past_clear-on.ensures.journey c.pass_drive_clear-on.ensures.passage c.walk_past_clear-on-2.ensures.journey
     c.deref_mut.result.now.boxes.last c.deref_mut.result.now.boxes.last _ there (Some c.walk_past_clear-on-2.result) (keeps_same there)

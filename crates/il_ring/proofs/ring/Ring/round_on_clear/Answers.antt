@@ -3,7 +3,7 @@ use Rattle.il_ring.specs.Journeys.{trip_of}
 use Rattle.il_ring.specs.Lending.{leads}
 use Rattle.il_ring.specs.Rings.{RingView, drive_party, with_held}
 use Rattle.il_ring.specs.Seen.{parts_seen}
-use Rattle.il_ring.proofs.LedWalks.{keeps_released, keeps_same, led_from_walks, led_round_at, passes_none}
+use Rattle.il_ring.proofs.ControlledWalks.{keeps_released, keeps_same, controlled_from_walks, controlled_round_at, passes_none}
 use Rattle.il_ring.proofs.ring.Ring.round_on_clear.Goals as goal
 
 pub returns : goal.returns
@@ -15,8 +15,8 @@ returns g c =
     let two = c.pass_drive_clear-on in
     let three = c.walk_past_clear-on-2 in
     let there = record three.new.books { held = None } in
-    led_round_at g.M.Medium.view _ _ _ _ _ (ap (λ r. with_held r None) seen)
-    (led_from_walks g.M.Medium.view _ _ _ _ _ _ _ _ _ _ (record start { held = None }) (record one.new.books { held = None }) (record two.new.books { held = None }) there
+    controlled_round_at g.M.Medium.view _ _ _ _ _ (ap (λ r. with_held r None) seen)
+    (controlled_from_walks g.M.Medium.view _ _ _ _ _ _ _ _ _ _ (record start { held = None }) (record one.new.books { held = None }) (record two.new.books { held = None }) there
     c.args.flight (Some one.result) (Some two.result) (Some three.result)
     (keeps_released one.ensures.books) (keeps_released two.ensures.books) (keeps_released three.ensures.books) (c.party-party.ensures.party ∙ sym (ap (λ (r : RingView _). drive_party r) seen))
     one.ensures.journey two.ensures.passage three.ensures.journey

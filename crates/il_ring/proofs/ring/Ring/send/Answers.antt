@@ -1,5 +1,5 @@
 use Rattle.std.proofs.Common.{refl}
-use Rattle.il_ring.proofs.LedSends.{back_led, lent_sent}
+use Rattle.il_ring.proofs.ControlledSends.{back_controlled, lent_sent}
 use Rattle.il_ring.proofs.SendLaws.{back_sent, counts_sent, data_sent, handed_sent, kept_sent, plain_sent, room_sent, sent_round, start_sent}
 use Rattle.il_ring.proofs.HandedOver.{over_sent}
 use Rattle.il_ring.proofs.ring.Ring.send.Goals as goal
@@ -38,4 +38,4 @@ pub returns-clause-lent : goal.returns-clause-lent
 returns-clause-lent g c = λ ring under over. lent_sent g.M.Medium.view _ _ _ _ _ _ c.round.ensures c.end_lending.ensures c.sourced.ensures ring under
 
 pub returns-clause-back : goal.returns-clause-back
-returns-clause-back g c = λ led. back_led g.M.Medium.view _ _ _ _ _ _ c.round.ensures c.end_lending.ensures c.sourced.ensures c.requires.leads led
+returns-clause-back g c = λ controlled. back_controlled g.M.Medium.view _ _ _ _ _ _ c.round.ensures c.end_lending.ensures c.sourced.ensures c.requires.leads controlled

@@ -1,0 +1,4 @@
+mod Mounts
+mod Inserts
+mod Chains
+mod Said

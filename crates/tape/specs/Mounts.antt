@@ -1,0 +1,20 @@
+-- What jobs see of a host.
+use Rattle.std.specs.Prelude.{◌≡◌, List, []}
+use Rattle.host_model.specs.HostStates.{HostState}
+use Rattle.il_host.specs.HostView.{HostView}
+use Rattle.tape_jobs.specs.Volumes.{Mounted, VolumesView}
+
+-- the tape in the drive of a host
+abbrev pub mounted_in : HostState → Mounted
+mounted_in s = record { records = s.records; tape = s.tape; kept = s.kept; faults = s.faults }
+
+-- a host under a plan without faults
+abbrev pub mounted : HostView → VolumesView
+mounted v = record {
+  valid = v.valid × (v.plan ≡ []);
+  mounted = mounted_in v.state;
+  inside = v.inside;
+  images = v.images;
+  moment = v.moment;
+  left_since = v.left_since;
+}

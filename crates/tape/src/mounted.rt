@@ -1,0 +1,29 @@
+use il_host::Performer;
+use il_script::{Command, Reply};
+use lif_dir::SlotTable;
+use lif_header::Header;
+use tape_jobs::Volumes;
+
+/// The image in the drive of a host, on a loop without planned faults.
+#[derive(Drop)]
+pub struct Mounted<P: Drop> {
+    pub(crate) host: P,
+}
+
+impl<P: Performer + Drop> Volumes for Mounted<P> {
+    ghost use Rattle.tape.specs.Mounts.{mounted};
+
+    ghost seen = { λ m. mounted (P.view m.host) };
+
+    fn list(&mut self) -> Reply {
+        self.host.perform(&Command::Dir, b"")
+    }
+
+    fn size(&self) -> u16 {
+        self.host.size()
+    }
+
+    fn directory(&self) -> Option<(Header, &SlotTable)> {
+        self.host.directory()
+    }
+}

@@ -1,0 +1,112 @@
+ghost use Rattle.std.specs.Prelude.{◌≡◌, true};
+ghost use Rattle.lif_model.specs.Apply.{Dir};
+ghost use Rattle.tape_jobs.specs.Dir.{DirDid, WritesListing, WritesText, styled_text, volume_text};
+ghost use Rattle.tape_jobs.specs.Volumes.{StaysBeside, StopLeaves, volume_shown};
+
+use crate::volumes::Volumes;
+use il_ports::{Sink, write_all};
+use il_script::{Code, Reply};
+use lif_dir::SlotTable;
+use lif_header::Header;
+use std::alloc::Global;
+use tape_text::{csv_rows, listing};
+
+/// How a job on one image went.
+#[derive(Clone, Copy, Debug, PartialEq, Eq)]
+pub enum Went {
+    /// All was done.
+    Done,
+    /// The volume refused it.
+    Refused(Code),
+    /// The medium failed.
+    Fault,
+    /// Standard output could not be written.
+    Unwritten,
+    /// There was no memory.
+    OutOfMemory,
+}
+
+/// How a volume is listed.
+#[derive(Clone, Copy, Debug)]
+pub enum Style<'a> {
+    /// In columns, after the name of the image if it has a heading.
+    Columns(Option<&'a str>),
+    /// As rows of CSV, which begin with the name of the image.
+    Rows(&'a str),
+}
+
+/// Writes a text, and says how that went.
+fn written<K: Sink>(out: &mut K, text: &[u8]) -> Went
+    ensures { WritesText result text.now (K.written out.old) (K.written out.new) (K.faults out.old) (K.faults out.new) }
+{
+    match write_all(out, text) {
+        Ok(()) => Went::Done,
+        Err(_) => Went::Unwritten,
+    }
+}
+
+/// Writes the text for a volume with this header and these slots, on a medium of `size` records.
+fn write_volume<K: Sink>(
+    alloc: Global,
+    style: Style<'_>,
+    all: bool,
+    size: u16,
+    header: Header,
+    slots: &SlotTable,
+    out: &mut K,
+) -> Went
+    ensures { WritesText result (styled_text style.entry all size header slots.now.slots)
+        (K.written out.old) (K.written out.new) (K.faults out.old) (K.faults out.new) }
+{
+    match style {
+        Style::Columns(heading) => match listing(alloc, heading, all, size, &header, slots) {
+            Ok(page) => written(out, page.text()),
+            Err(_) => Went::OutOfMemory,
+        },
+        Style::Rows(image) => match csv_rows(alloc, image.as_bytes(), all, size, &header, slots) {
+            Ok(rows) => written(out, rows.as_slice()),
+            Err(_) => Went::OutOfMemory,
+        },
+    }
+}
+
+/// Writes the text for the directory that is kept in memory.
+fn write_listing<V: Volumes, K: Sink>(
+    alloc: Global,
+    volumes: &V,
+    style: Style<'_>,
+    all: bool,
+    out: &mut K,
+) -> Went
+    requires valid { (V.seen volumes.now).valid }
+    requires kept { (V.seen volumes.now).mounted.kept ≡ true }
+    ensures { WritesListing result (volume_text style.entry all (V.seen volumes.now).mounted.records)
+        (volume_shown (V.seen volumes.now).mounted.tape)
+        (K.written out.old) (K.written out.new) (K.faults out.old) (K.faults out.new) }
+{
+    let Some((header, slots)) = volumes.directory() else {
+        unreachable!()
+    };
+    write_volume(alloc, style, all, volumes.size(), header, slots, out)
+}
+
+/// Lists one image.
+pub fn dir<V: Volumes, K: Sink>(
+    alloc: Global,
+    volumes: &mut V,
+    style: Style<'_>,
+    all: bool,
+    out: &mut K,
+) -> Went
+    requires valid { (V.seen volumes.old).valid }
+    ensures valid { (V.seen volumes.new).valid }
+    ensures lists { DirDid result style.entry all (V.seen volumes.old).mounted (V.seen volumes.new).mounted
+        (K.written out.old) (K.written out.new) (K.faults out.old) (K.faults out.new) }
+    ensures beside { StaysBeside (StopLeaves Dir (V.seen volumes.old).mounted) (V.seen volumes.old) (V.seen volumes.new) }
+{
+    match volumes.list() {
+        Reply::Ok => write_listing(alloc, volumes, style, all, out),
+        Reply::No(code) => Went::Refused(code),
+        Reply::FaultFrame | Reply::FaultMedium => Went::Fault,
+    }
+}

@@ -1,0 +1,195 @@
+//! What the arguments of `tape` ask for.
+
+use il_same::same;
+use std::alloc::{AllocError, Global};
+use std::test::Fail;
+use tape_words::{Job, NotRead, Topic, job_of, missing, parse};
+
+/// The arguments of a text, with a space between each two.
+fn words_of(alloc: Global, text: &str) -> Result<Vec<String>, AllocError> {
+    let mut words = Vec::new(alloc);
+    if !text.is_empty() {
+        for word in text.split(' ') {
+            words.push(String::from_str(alloc, word)?)?;
+        }
+    }
+    Ok(words)
+}
+
+/// Whether these arguments ask for this job.
+fn asks(alloc: Global, text: &str, wanted: Job<'_>) -> Result<bool, AllocError> {
+    let words = words_of(alloc, text)?;
+    match parse(alloc, words.as_slice()) {
+        Ok(found) => match job_of(&found) {
+            Some(job) => Ok(same(job, wanted)),
+            None => Ok(false),
+        },
+        Err(NotRead::Refused(_)) => Ok(false),
+        Err(NotRead::OutOfMemory) => Err(AllocError),
+    }
+}
+
+/// What a listing is asked for: the redo file too, comma-separated values, and the images.
+type Listing = (bool, bool, &'static [&'static str]);
+
+/// Arguments, and the listing that they ask for.
+const LISTINGS: [(&str, Listing); 14] = [
+    ("dir TAPE", (false, false, &["TAPE"])),
+    ("dir A B C", (false, false, &["A", "B", "C"])),
+    ("dir B A B", (false, false, &["B", "A", "B"])),
+    ("dir --all TAPE", (true, false, &["TAPE"])),
+    ("dir --csv TAPE", (false, true, &["TAPE"])),
+    ("dir --all --csv TAPE", (true, true, &["TAPE"])),
+    ("dir TAPE --csv --all", (true, true, &["TAPE"])),
+    ("dir A --csv B", (false, true, &["A", "B"])),
+    ("dir -- --x", (false, false, &["--x"])),
+    ("dir --all -- --csv A", (true, false, &["--csv", "A"])),
+    ("dir A -- -b", (false, false, &["A", "-b"])),
+    ("dir -", (false, false, &["-"])),
+    ("dir dir", (false, false, &["dir"])),
+    ("dir help", (false, false, &["help"])),
+];
+
+#[test]
+fn arguments_ask_for_a_listing(rt: HostRuntime) -> Result<(), Fail> {
+    for (text, (all, csv, images)) in LISTINGS {
+        let wanted = Job::Dir { all, csv, images };
+        assert!(rt; asks(rt.alloc(), text, wanted)?, "{text}");
+    }
+    Ok(())
+}
+
+/// Arguments, and the job that they ask to explain.
+const HELPS: [(&str, Option<Topic>); 10] = [
+    ("help", None),
+    ("--help", None),
+    ("--help --version", None),
+    ("--version --help", None),
+    ("--help dir", None),
+    ("help dir", Some(Topic::Dir)),
+    ("dir --help", Some(Topic::Dir)),
+    ("dir --help A --all", Some(Topic::Dir)),
+    ("help help", Some(Topic::Help)),
+    ("help --help dir", Some(Topic::Help)),
+];
+
+#[test]
+fn arguments_ask_for_help(rt: HostRuntime) -> Result<(), Fail> {
+    for (text, topic) in HELPS {
+        let wanted = Job::Help { topic };
+        assert!(rt; asks(rt.alloc(), text, wanted)?, "{text}");
+    }
+    Ok(())
+}
+
+#[test]
+fn arguments_ask_for_the_version(rt: HostRuntime) -> Result<(), Fail> {
+    for text in ["--version", "--version dir --help", "--version dir"] {
+        assert!(rt; asks(rt.alloc(), text, Job::Version)?, "{text}");
+    }
+    Ok(())
+}
+
+/// The message for arguments that are refused, if they are.
+fn refusal(alloc: Global, words: &[String]) -> Result<Option<String>, AllocError> {
+    match parse(alloc, words) {
+        Ok(found) => match job_of(&found) {
+            Some(_) => Ok(None),
+            None => Ok(Some(missing(alloc, &found)?)),
+        },
+        Err(NotRead::Refused(message)) => Ok(Some(message)),
+        Err(NotRead::OutOfMemory) => Err(AllocError),
+    }
+}
+
+/// Arguments that are refused, and how the message begins.
+const REFUSED: [(&str, &str); 20] = [
+    (
+        "",
+        "Does one job with image files of HP-IL tapes and discs\n",
+    ),
+    (
+        "--",
+        "Does one job with image files of HP-IL tapes and discs\n",
+    ),
+    (
+        "dir",
+        "tape: dir needs at least one IMAGE; 'tape help dir' explains it\n",
+    ),
+    (
+        "dir --all --csv --",
+        "tape: dir needs at least one IMAGE; 'tape help dir' explains it\n",
+    ),
+    (
+        "help list",
+        "tape: there is no job 'list'; 'tape help' lists the jobs\n",
+    ),
+    (
+        "help DIR",
+        "tape: there is no job 'DIR'; 'tape help' lists the jobs\n",
+    ),
+    ("list TAPE", "tape: unrecognized subcommand 'list'\n"),
+    ("DIR TAPE", "tape: unrecognized subcommand 'DIR'\n"),
+    ("-- dir TAPE", "tape: unexpected argument 'dir' found\n"),
+    ("-h", "tape: unexpected argument '-h' found\n"),
+    ("-V", "tape: unexpected argument '-V' found\n"),
+    (
+        "--all dir TAPE",
+        "tape: unexpected argument '--all' found\n",
+    ),
+    ("dir --al TAPE", "tape: unexpected argument '--al' found\n"),
+    ("dir -a TAPE", "tape: unexpected argument '-a' found\n"),
+    (
+        "dir --version",
+        "tape: unexpected argument '--version' found\n",
+    ),
+    (
+        "dir --all --all TAPE",
+        "tape: the argument '--all' cannot be used multiple times\n",
+    ),
+    (
+        "dir --all=1 TAPE",
+        "tape: unexpected value '1' for '--all' found; no more were expected\n",
+    ),
+    (
+        "--help --help",
+        "tape: the argument '--help' cannot be used multiple times\n",
+    ),
+    (
+        "--help --quiet",
+        "tape: unexpected argument '--quiet' found\n",
+    ),
+    ("help dir dir", "tape: unexpected argument 'dir' found\n"),
+];
+
+#[test]
+fn other_arguments_are_refused(rt: HostRuntime) -> Result<(), Fail> {
+    for (text, begin) in REFUSED {
+        let words = words_of(rt.alloc(), text)?;
+        match refusal(rt.alloc(), words.as_slice())? {
+            Some(message) => assert!(rt; message.as_str().starts_with(begin), "{text}: {message}"),
+            None => assert!(rt; false, "{text}"),
+        }
+    }
+    Ok(())
+}
+
+const UNKNOWN: &str = "\
+tape: unexpected argument '--al' found
+
+  tip: a similar argument exists: '--all'
+
+Usage: tape dir [OPTIONS] IMAGE...
+
+For more information, try 'tape help'.
+";
+
+#[test]
+fn a_refusal_says_what_the_job_takes(rt: HostRuntime) -> Result<(), Fail> {
+    let words = words_of(rt.alloc(), "dir --al TAPE")?;
+    match refusal(rt.alloc(), words.as_slice())? {
+        Some(message) => assert_eq!(rt; message.as_str(), UNKNOWN),
+        None => assert!(rt; false),
+    }
+    Ok(())
+}

@@ -1,0 +1,11 @@
+use Rattle.std.proofs.Common.{ap, ap₂, ◌∙◌}
+use Rattle.clap.specs.Words.{App, with_subcommand}
+use Rattle.tape_words.specs.Simple.{tape_app}
+use Rattle.tape_words.proofs.rules.command.Goals as goal
+
+pub returns : goal.returns
+unfolding tape_app
+returns c =
+    let top = λ (a : App). a.top in
+    let one = c.in_ok-subcommand.ensures.shape c.in_ok-job_command.ensures.local ∙ ap₂ with_subcommand c.in_ok-bare.ensures (ap top c.in_ok-job_command.ensures.app) in
+    c.in_ok-command.ensures.shape c.in_ok-job_command-2.ensures.local ∙ ap₂ with_subcommand one (ap top c.in_ok-job_command-2.ensures.app)

@@ -1,0 +1,67 @@
+-- The simple command that takes the arguments: a subcommand for each job.
+use Rattle.std.specs.Prelude.{Bool, true, false, Option, Some, None, List, codes}
+use Rattle.std.specs.Str.{bytes_eq}
+use Rattle.clap.specs.Words.{App, Rule, Row, Text, new_app, new_rule, with_rule, with_subcommand, first_of}
+use Rattle.clap.specs.declared.builder.action.ArgAction.TheVariants.{Append, Set, SetTrue}
+use Rattle.tape_words.specs.declared.jobs.Topic.{Topic}
+use Rattle.tape_words.specs.declared.jobs.Topic.TheVariants as topic
+
+-- an option without a value, named in full
+abbrev pub flag_rule : Text → Rule
+flag_rule id = record (new_rule id) { long = Some id; action = Some SetTrue }
+
+-- at most one argument that is not an option
+abbrev pub one_rule : Text → Rule
+one_rule id = record (new_rule id) { value_names = 1; action = Some Set }
+
+-- any number of arguments that are not options
+abbrev pub several_rule : Text → Rule
+several_rule id = record (new_rule id) { value_names = 1; action = Some Append }
+
+-- a command without arguments, to which the library adds nothing
+abbrev pub plain_app : Text → App
+plain_app name = let a : App = new_app name in record a {
+  top = record (a.top) {
+    disable_help_flag = true;
+    disable_help_subcommand = true;
+    disable_version_flag = true;
+  };
+}
+
+-- `dir [--all] [--csv] [--help] IMAGE..`
+abbrev pub dir_app : App
+dir_app = with_rule (with_rule (with_rule (with_rule (plain_app (codes "dir")) (several_rule (codes "image")))
+    (flag_rule (codes "all"))) (flag_rule (codes "csv"))) (flag_rule (codes "help"))
+
+-- `help [--help] [JOB]`
+abbrev pub help_app : App
+help_app = with_rule (with_rule (plain_app (codes "help")) (one_rule (codes "job"))) (flag_rule (codes "help"))
+
+abbrev pub app_for : Topic → App
+app_for topic.Dir = dir_app
+app_for topic.Help = help_app
+
+-- the command of the program, whose arguments do not begin with its name
+abbrev pub top_app : App
+top_app = let a : App = plain_app (codes "tape") in record a { top = record (a.top) { no_binary_name = true } }
+
+-- the command without its jobs: two options of its own
+abbrev pub bare_app : App
+bare_app = with_rule (with_rule top_app (flag_rule (codes "help"))) (flag_rule (codes "version"))
+
+unfoldable pub tape_app : App
+tape_app = with_subcommand (with_subcommand bare_app dir_app.top) help_app.top
+
+-- what a page of help explains: one job, or the program
+abbrev pub page_app : Option Topic → App
+page_app (Some topic) = app_for topic
+page_app None = tape_app
+
+-- an option without a value has the text `true` if it is given
+abbrev pub is_true : Option Text → Bool
+is_true None = false
+is_true (Some text) = bytes_eq text (codes "true")
+
+-- whether an option without a value is given
+abbrev pub is_set : Text → List Row → Bool
+is_set id rows = is_true (first_of id rows)

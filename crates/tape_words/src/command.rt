@@ -1,0 +1,135 @@
+ghost use Rattle.std.specs.Prelude.{◌≡◌, ◌≢◌, IfOk, IfErr, None, map, option_map};
+ghost use Rattle.std.specs.String.{string_bytes};
+ghost use Rattle.clap.specs.Words.{found_of, rows_of, first_of, all_of, subcommand_rows_of};
+ghost use Rattle.clap.specs.declared.error.kind.ErrorKind.TheVariants as kinds;
+ghost use Rattle.tape_words.specs.Simple.{is_set};
+ghost use Rattle.tape_words.specs.Asked.{IfRefused, asked_as, asked_by, asked_for, asked_of, help_in, told_by, words_in};
+
+use crate::jobs::{Job, Topic, topic_of};
+use crate::rules::command;
+use clap::error::ErrorKind;
+use clap::{ArgMatches, Error};
+use std::alloc::{AllocError, Global};
+
+/// Why arguments are not read.
+#[derive(Drop)]
+pub enum NotRead {
+    /// The rules do not take the arguments. The text says why, for the user.
+    Refused(String),
+    /// There was not enough memory to read them.
+    OutOfMemory,
+}
+
+/// Reads the arguments after the program's name. `Refused` is returned only if they ask for no job.
+pub fn parse<'a>(alloc: Global, words: &'a [String]) -> Result<ArgMatches<'a>, NotRead>
+    ensures read { IfOk result (λ m. words_in (map string_bytes words.entry.now) ≡ asked_of m) }
+    ensures refused { IfErr result (IfRefused (words_in (map string_bytes words.entry.now) ≡ None)) }
+{
+    let Ok(command) = command(alloc) else {
+        return Err(NotRead::OutOfMemory);
+    };
+    match command.try_get_matches_from(words) {
+        Ok(matches) => Ok(matches),
+        Err(error) => Err(not_read(error.kind(), refusal(alloc, &error))),
+    }
+}
+
+/// What an error of this kind means for the program, if this is its message.
+fn not_read(kind: ErrorKind, message: Result<String, AllocError>) -> NotRead
+    ensures memory { kind ≡ kinds.OutOfMemory → result ≡ NotRead.OutOfMemory }
+    ensures words { kind ≢ kinds.OutOfMemory → result ≡ told_by message }
+{
+    match (kind, message) {
+        (ErrorKind::OutOfMemory, _) | (_, Err(_)) => NotRead::OutOfMemory,
+        (_, Ok(text)) => NotRead::Refused(text),
+    }
+}
+
+/// The text of an error, as a message of `tape`.
+fn refusal(alloc: Global, error: &Error) -> Result<String, AllocError> {
+    let text = error.to_string(alloc)?;
+    let reason = reason_in(text.as_str());
+    format!(in alloc; "tape: {reason}\nFor more information, try 'tape help'.\n")
+}
+
+/// The text without the word with which `clap` begins an error.
+fn reason_in(text: &str) -> &str {
+    text.strip_prefix("error: ").unwrap_or(text)
+}
+
+/// The value of an argument, if it is given.
+pub(crate) fn value<'a>(matches: &ArgMatches<'a>, id: &str) -> Option<&'a str>
+    ensures { option_map (λ text. text.now) result ≡ first_of id.now (rows_of (found_of matches.now)) }
+{
+    matches.get_str(id)
+}
+
+/// All values of an argument, if it is given.
+fn values<'r, 'a>(matches: &'r ArgMatches<'a>, id: &str) -> Option<&'r [&'a str]>
+    ensures { option_map (λ texts. map (λ text. text.now) texts.now) result ≡ all_of id.now (rows_of (found_of matches.now)) }
+{
+    matches.get_strs(id)
+}
+
+/// Whether an option without a value is given.
+fn is_set(matches: &ArgMatches<'_>, id: &str) -> bool
+    ensures { result ≡ is_set id.now (rows_of (found_of matches.now)) }
+{
+    match value(matches, id) {
+        Some(text) => text == "true",
+        None => false,
+    }
+}
+
+/// Help for the program, or for the job that is named.
+fn help_for<'r>(name: Option<&str>) -> Option<Job<'r>>
+    ensures { option_map asked_by result ≡ help_in (option_map (λ text. text.now) name.entry) }
+{
+    let topic = match name {
+        Some(name) => Some(topic_of(name)?),
+        None => None,
+    };
+    Some(Job::Help { topic })
+}
+
+/// The job, with the arguments that were found for it.
+fn job_for<'r, 'a>(topic: Topic, found: &'r ArgMatches<'a>) -> Option<Job<'r>>
+    ensures { option_map asked_by result ≡ asked_for topic (rows_of (found_of found.now)) }
+{
+    match topic {
+        Topic::Dir => {
+            let images = values(found, "image")?;
+            Some(Job::Dir {
+                all: is_set(found, "all"),
+                csv: is_set(found, "csv"),
+                images,
+            })
+        }
+        Topic::Help => help_for(value(found, "job")),
+    }
+}
+
+/// The job of this name, or the help for it.
+fn job_as<'r, 'a>(name: &str, found: &'r ArgMatches<'a>) -> Option<Job<'r>>
+    ensures { option_map asked_by result ≡ asked_as name.now (rows_of (found_of found.now)) }
+{
+    let topic = topic_of(name)?;
+    if is_set(found, "help") {
+        return Some(Job::Help { topic: Some(topic) });
+    }
+    job_for(topic, found)
+}
+
+/// The job that the arguments ask for. If there is none, [`crate::missing`] says why.
+pub fn job_of<'r, 'a>(matches: &'r ArgMatches<'a>) -> Option<Job<'r>>
+    ensures { option_map asked_by result ≡ asked_of matches.now }
+{
+    if is_set(matches, "help") {
+        return Some(Job::Help { topic: None });
+    }
+    if is_set(matches, "version") {
+        return Some(Job::Version);
+    }
+    let (name, found) = matches.subcommand()?;
+    job_as(name, found)
+}

@@ -1,0 +1,32 @@
+use crate::command::value;
+use crate::jobs::{Topic, topic_of};
+use crate::rules::page_command;
+use clap::ArgMatches;
+use std::alloc::{AllocError, Global};
+
+/// What `tape --version` prints.
+pub const VERSION_TEXT: &str = "tape 1.0\n";
+
+/// What `tape help` prints. The text is made from the rules that read the arguments.
+pub fn help_text(alloc: Global, topic: Option<Topic>) -> Result<String, AllocError> {
+    let mut command = page_command(alloc, topic)?;
+    command.render_help()
+}
+
+/// Why arguments that the rules take ask for no job: what the program writes before it refuses them. If no job is named,
+/// that is the help of the program.
+pub fn missing(alloc: Global, matches: &ArgMatches<'_>) -> Result<String, AllocError> {
+    let Some((name, found)) = matches.subcommand() else {
+        return help_text(alloc, None);
+    };
+    match (topic_of(name), value(found, "job")) {
+        (Some(Topic::Help), Some(job)) => {
+            format!(in alloc; "tape: there is no job '{job}'; 'tape help' lists the jobs\n")
+        }
+        _ => {
+            format!(in alloc;
+                "tape: {name} needs at least one IMAGE; 'tape help {name}' explains it\n"
+            )
+        }
+    }
+}

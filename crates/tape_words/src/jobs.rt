@@ -1,0 +1,45 @@
+ghost use Rattle.std.specs.Prelude.{◌≡◌};
+ghost use Rattle.tape_words.specs.Asked.{topic_in};
+
+/// A job that `tape help` can explain.
+#[derive(Clone, Copy, Debug, PartialEq, Eq)]
+pub enum Topic {
+    /// `tape dir`.
+    Dir,
+    /// `tape help`.
+    Help,
+}
+
+/// A job, with its arguments.
+#[derive(Clone, Copy, Debug, PartialEq, Eq)]
+pub enum Job<'a> {
+    /// Lists the files of images.
+    Dir {
+        /// Whether the redo file is listed too.
+        all: bool,
+        /// Whether the listing is written as comma-separated values.
+        csv: bool,
+        /// The names of the images, at least one, in the order of the arguments.
+        images: &'a [&'a str],
+    },
+    /// Explains one job, or the whole program if there is no topic.
+    Help {
+        /// The job that is explained.
+        topic: Option<Topic>,
+    },
+    /// Prints the version.
+    Version,
+}
+
+/// The job of this name.
+pub(crate) fn topic_of(name: &str) -> Option<Topic>
+    ensures { result ≡ topic_in name.now }
+{
+    if name == "dir" {
+        return Some(Topic::Dir);
+    }
+    if name == "help" {
+        return Some(Topic::Help);
+    }
+    None
+}

@@ -1,0 +1,14 @@
+//! The arguments of `tape`: which job they ask for, and when they are refused.
+//!
+//! The program takes `tape dir [--all] [--csv] IMAGE...`, `tape help [JOB]`, `tape --help` and `tape --version`; each
+//! job takes `--help` too. [`parse`] reads the arguments, and [`job_of`] gives the job that they ask for.
+#![tactic(auto)]
+
+mod command;
+mod help;
+mod jobs;
+mod rules;
+
+pub use command::{NotRead, job_of, parse};
+pub use help::{VERSION_TEXT, help_text, missing};
+pub use jobs::{Job, Topic};

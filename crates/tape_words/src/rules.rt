@@ -1,0 +1,150 @@
+ghost use Rattle.std.specs.Prelude.{◌≡◌, IfOk, false};
+ghost use Rattle.clap.specs.Words.{app_of, rule_of};
+ghost use Rattle.clap.specs.declared.builder.command.Command.TheViews.{out-Command};
+ghost use Rattle.tape_words.specs.Simple.{flag_rule, one_rule, several_rule, plain_app, dir_app, help_app, app_for, top_app, bare_app, tape_app, page_app};
+
+use crate::jobs::Topic;
+use clap::{Arg, ArgAction, Command};
+use std::alloc::{AllocError, Global};
+
+/// An option without a value.
+fn flag<'a>(alloc: Global, id: &'a str, help: &'a str) -> Arg<'a>
+    ensures rule { rule_of result ≡ flag_rule id.entry.now }
+    ensures local { result.global ≡ false }
+{
+    Arg::new(alloc, id)
+        .long(id)
+        .help(help)
+        .action(ArgAction::SetTrue)
+}
+
+/// At most one argument that is not an option.
+fn one<'a>(alloc: Global, id: &'a str, shown: &'a str, help: &'a str) -> Arg<'a>
+    ensures rule { rule_of result ≡ one_rule id.entry.now }
+    ensures local { result.global ≡ false }
+{
+    Arg::new(alloc, id)
+        .value_name(shown)
+        .help(help)
+        .action(ArgAction::Set)
+}
+
+/// Any number of arguments that are not options.
+fn several<'a>(alloc: Global, id: &'a str, shown: &'a str, help: &'a str) -> Arg<'a>
+    ensures rule { rule_of result ≡ several_rule id.entry.now }
+    ensures local { result.global ≡ false }
+{
+    Arg::new(alloc, id)
+        .value_name(shown)
+        .help(help)
+        .action(ArgAction::Append)
+}
+
+/// A command that takes no arguments yet. What `clap` itself would add to it is off.
+fn plain<'a>(alloc: Global, name: &'a str, about: &'a str, usage: &'a str) -> Command<'a>
+    ensures app { app_of result ≡ plain_app name.entry.now }
+    ensures local { (out-Command result).has_globals ≡ false }
+{
+    Command::new(alloc, name)
+        .about(about)
+        .override_usage(usage)
+        .disable_help_flag(true)
+        .disable_version_flag(true)
+        .disable_help_subcommand(true)
+}
+
+fn dir<'a>(alloc: Global) -> Result<Command<'a>, AllocError>
+    ensures app { IfOk result (λ c. app_of c ≡ dir_app) }
+    ensures local { IfOk result (λ c. (out-Command c).has_globals ≡ false) }
+{
+    let command = plain(
+        alloc,
+        "dir",
+        "Lists the files of each IMAGE",
+        "tape dir [OPTIONS] IMAGE...",
+    )
+    .arg(several(
+        alloc,
+        "image",
+        "IMAGE",
+        "The image files to list, at least one",
+    ))?
+    .arg(flag(alloc, "all", "Also list the redo file"))?
+    .arg(flag(alloc, "csv", "Write comma-separated values"))?
+    .arg(flag(alloc, "help", "Print this page"))?;
+    Ok(command)
+}
+
+fn help<'a>(alloc: Global) -> Result<Command<'a>, AllocError>
+    ensures app { IfOk result (λ c. app_of c ≡ help_app) }
+    ensures local { IfOk result (λ c. (out-Command c).has_globals ≡ false) }
+{
+    let command = plain(
+        alloc,
+        "help",
+        "Explains a job, or lists all jobs",
+        "tape help [JOB]",
+    )
+    .arg(one(alloc, "job", "JOB", "The job to explain"))?
+    .arg(flag(alloc, "help", "Print this page"))?;
+    Ok(command)
+}
+
+/// The command that takes the arguments of one job.
+pub(crate) fn job_command<'a>(alloc: Global, topic: Topic) -> Result<Command<'a>, AllocError>
+    ensures app { IfOk result (λ c. app_of c ≡ app_for topic) }
+    ensures local { IfOk result (λ c. (out-Command c).has_globals ≡ false) }
+{
+    match topic {
+        Topic::Dir => dir(alloc),
+        Topic::Help => help(alloc),
+    }
+}
+
+/// The command of the program, whose arguments do not begin with its name.
+fn top<'a>(alloc: Global) -> Command<'a>
+    ensures { app_of result ≡ top_app }
+{
+    plain(
+        alloc,
+        "tape",
+        "Does one job with image files of HP-IL tapes and discs",
+        "tape JOB [ARGUMENTS]",
+    )
+    .no_binary_name(true)
+    .subcommand_help_heading("Jobs")
+    .after_help("'tape help JOB' explains one job.")
+}
+
+/// The command without its jobs.
+fn bare<'a>(alloc: Global) -> Result<Command<'a>, AllocError>
+    ensures { IfOk result (λ c. app_of c ≡ bare_app) }
+{
+    let command = top(alloc)
+        .arg(flag(alloc, "help", "Print this page"))?
+        .arg(flag(alloc, "version", "Print the version"))?;
+    Ok(command)
+}
+
+/// The command that takes the arguments of the program: a subcommand for each job.
+pub(crate) fn command<'a>(alloc: Global) -> Result<Command<'a>, AllocError>
+    ensures { IfOk result (λ c. app_of c ≡ tape_app) }
+{
+    let command = bare(alloc)?
+        .subcommand(job_command(alloc, Topic::Dir)?)?
+        .subcommand(job_command(alloc, Topic::Help)?)?;
+    Ok(command)
+}
+
+/// The command that a page of help explains: that of one job, or of the program if there is no topic.
+pub(crate) fn page_command<'a>(
+    alloc: Global,
+    topic: Option<Topic>,
+) -> Result<Command<'a>, AllocError>
+    ensures { IfOk result (λ c. app_of c ≡ page_app topic) }
+{
+    match topic {
+        Some(topic) => job_command(alloc, topic),
+        None => command(alloc),
+    }
+}
