@@ -12,18 +12,13 @@ use Rattle.il_check.specs.Whole.{CheckLeaves}
 use Rattle.il_command.specs.declared.messages.Way.{Way}
 use Rattle.il_command.specs.declared.messages.Way.TheVariants as way
 use Rattle.il_command.specs.declared.performing.Performed.{Performed}
+use Rattle.il_host.specs.Jobs.{Devices}
 use Rattle.il_command.specs.declared.performing.Performed.TheVariants as performed
 
 -- what is unread of a standard input and what was written to a standard output, each if it is known
 pub record Streams : Type 0 where
   pub left : Option (List ℕ)
   pub written : Option (List ℕ)
-
--- the devices before and after the drive, and a second controller
-pub record Devices : Type 0 where
-  pub before : List DeviceState
-  pub after : List DeviceState
-  pub guest : Option GuestState
 
 abbrev pub streams : (left written : Option (List ℕ)) → Streams
 streams left written = record { left = left; written = written }

@@ -35,7 +35,7 @@ use Rattle.il_ring.specs.Statuses.{ReportsStatus, reported_by}
 use Rattle.il_control.specs.Calls.{Broke}
 use Rattle.il_control.specs.Brought.{is_from_here}
 use Rattle.il_control.specs.Lent.{DriveLeft, DriveSo}
-use Rattle.il_control.specs.Receives.{AtEnd, AtHeld, AtNext, DueAt, FirstLost, IsCalm, IsHolding, BeginBroken, TakesBroken, RelayBroken, StartLost, after_start}
+use Rattle.il_control.specs.Receives.{AtEnd, AtHeld, AtNext, DueAt, FirstLost, IsCalm, IsHolding, BeginBroken, TakesBroken, RelayBroken, StartLost, past_start}
 use Rattle.il_control.proofs.LentCame.{AllQuiet, StaysSo, cut_quiet, echo_quiet, echoes_quiet, quiet_entry, quiet_frame, quiet_mild, spoken_quiet}
 use Rattle.il_control.proofs.LentSteps.{GoesOut}
 use Rattle.il_control.proofs.LentReports.{tells_left}
@@ -89,7 +89,7 @@ or_true : (a b : Bool) → b ≡ true → (a || b) ≡ true
 or_true true b h = refl
 or_true false b h = h
 
-after_quiet : (answer : Answer) → is_answer 0 answer ≡ true → list_all (quiet_entry start.Status) (after_start answer) ≡ true
+after_quiet : (answer : Answer) → is_answer 0 answer ≡ true → list_all (quiet_entry start.Status) (past_start answer) ≡ true
 after_quiet NotTaken legal = refl
 after_quiet (ToItsEnd p ds) legal =
     echoes_quiet start.Status p ds (entry p eto (outcome.Taken 0) ∷ []) (and_parts _ (list_all is_echo ds) (and_parts (not (p == 0)) _ legal).1).1 refl
@@ -125,7 +125,7 @@ module _ {M : Type 0} (view : M → MediumView) where
       let adds = not.added.adds in
       quiet_left adds.came adds.answers m.drive n.drive
       (⊎_elim (λ less. spoken_quiet start.Status adds.came (not.added.far less))
-      (λ on. cut_quiet start.Status (length (devices_of m)) (drive_party m) not.standing (after_start not.answer) adds.came (after_quiet not.answer not.legal) (not.added.near on))
+      (λ on. cut_quiet start.Status (length (devices_of m)) (drive_party m) not.standing (past_start not.answer) adds.came (after_quiet not.answer not.legal) (not.added.near on))
       (cases_lt h.flight.source (drive_party m))) mild adds.drive
 
   pub severed_left : (m : RingView M) (h : IsHolding m) (n : RingView M) → RelayBroken view m h n → IsMildFor start.Status m.drive.state → StaysMildFor start.Status view m.drive n.drive

@@ -29,7 +29,7 @@ use Rattle.il_ring.specs.Outcomes.{met_between, IsTalking}
 use Rattle.std.proofs.lemmas.List.{length-map}
 use Rattle.il_device.specs.State.{DeviceState}
 use Rattle.il_control.specs.Calls.{Unheard, Whole, Broke, IsIdle, loop_of}
-use Rattle.il_control.specs.Receives.{BeginWhole, BeginBroken, StartLost, FirstLost, TakesBytes, TakesInto, TakesBroken, WasTalking, Answered, NotAnswered, Asked, Received, NotReceived, after_start, talker_of, is_stopped, received, fits, AllSpoken, Brings, CutBrings, PassesBy, PassesInPart, up_to_end, LiesAfter, SaysOf, SpokenBy, IsNameless, accessory_at, id_bytes, own_frames, said_of, sent_frames}
+use Rattle.il_control.specs.Receives.{BeginWhole, BeginBroken, StartLost, FirstLost, TakesBytes, TakesInto, TakesBroken, WasTalking, Answered, NotAnswered, Asked, Received, NotReceived, past_start, talker_of, is_stopped, received, fits, AllSpoken, Brings, CutBrings, PassesBy, PassesInPart, up_to_end, LiesAfter, SaysOf, SpokenBy, IsNameless, accessory_at, id_bytes, own_frames, said_of, sent_frames}
 use Rattle.loop_model.specs.Reach.{held_at_end as held_after}
 use Rattle.loop_model.proofs.ReachLaws.{sourcing}
 use Rattle.il_control.proofs.HeldAtEnd.{cut_held, cut_holds_none, echo_quiet, front_quiet, front_source, quiet_ended, start_quiet}
@@ -85,10 +85,10 @@ said_by (ToItsEnd q ds) p is = refl
 said_by (Stopped q ds last) p is = refl
 
 -- the entries of an answer by this talker
-taken_entries : (f : Frame) (answer : Answer) (p : ℕ) → talker_of answer ≡ Some p → answer_entries 0 f answer ≡ entry 0 f (outcome.Taken p) ∷ after_start answer
+taken_entries : (f : Frame) (answer : Answer) (p : ℕ) → talker_of answer ≡ Some p → answer_entries 0 f answer ≡ entry 0 f (outcome.Taken p) ∷ past_start answer
 taken_entries f NotTaken p is = cc
-taken_entries f (ToItsEnd q ds) p is = let same : q ≡ p = cc in ap (λ p. entry 0 f (outcome.Taken p) ∷ after_start (ToItsEnd q ds)) same
-taken_entries f (Stopped q ds last) p is = let same : q ≡ p = cc in ap (λ p. entry 0 f (outcome.Taken p) ∷ after_start (Stopped q ds last)) same
+taken_entries f (ToItsEnd q ds) p is = let same : q ≡ p = cc in ap (λ p. entry 0 f (outcome.Taken p) ∷ past_start (ToItsEnd q ds)) same
+taken_entries f (Stopped q ds last) p is = let same : q ≡ p = cc in ap (λ p. entry 0 f (outcome.Taken p) ∷ past_start (Stopped q ds last)) same
 
 -- the end of the transmission is among the entries of an answer
 near_of : (f : Frame) (answer : Answer) (q p : ℕ) → talker_of answer ≡ Some p → (p == 0) ≡ false → list_all (is_from_here q) (answer_entries 0 f answer) ≡ true → q ≤ p
@@ -113,17 +113,17 @@ module _ {M : Type 0} (view : M → MediumView) (r m s : RingView M) (start : St
   spoilt_met : began.now.flight.altered ≡ true → met_between r m ≡ [] → ⊥
   spoilt_met altered = subst (λ altered. MatchBool altered (met_between r m ≡ [] → ⊥) (met_between r m ≡ [])) altered began.met
 
-  all_added : (answer : Answer) (added : Brings view m p (λ gs. began.now.flight.sent ∷ gs ≡ sent_frames answer ++ eto ∷ []) (Some p) (after_start answer) None s) → talker_of answer ≡ Some p
+  all_added : (answer : Answer) (added : Brings view m p (λ gs. began.now.flight.sent ∷ gs ≡ sent_frames answer ++ eto ∷ []) (Some p) (past_start answer) None s) → talker_of answer ≡ Some p
       → Brings view r p (λ gs. gs ≡ sent_frames answer ++ eto ∷ []) None (answer_entries 0 (start_frame start) answer) None s
   all_added answer added talker =
       subst (λ es. Brings view r p (λ gs. gs ≡ sent_frames answer ++ eto ∷ []) None es None s) (sym (taken_entries (start_frame start) answer p talker))
-      (brings_more view r m p (λ gs. gs ≡ began.now.flight.sent ∷ []) None (Some p) first began.added s (λ gs. began.now.flight.sent ∷ gs ≡ sent_frames answer ++ eto ∷ []) (λ gs. gs ≡ sent_frames answer ++ eto ∷ []) None (after_start answer) added
+      (brings_more view r m p (λ gs. gs ≡ began.now.flight.sent ∷ []) None (Some p) first began.added s (λ gs. began.now.flight.sent ∷ gs ≡ sent_frames answer ++ eto ∷ []) (λ gs. gs ≡ sent_frames answer ++ eto ∷ []) None (past_start answer) added
       (λ gs hs one more. ap (λ gs. gs ++ hs) one ∙ more))
 
-  cut_added : (answer : Answer) (standing : ℕ) (break : Break) (held_at_end : Option ℕ) → CutBrings view m p (Some p) (after_start answer) standing break held_at_end s → talker_of answer ≡ Some p
+  cut_added : (answer : Answer) (standing : ℕ) (break : Break) (held_at_end : Option ℕ) → CutBrings view m p (Some p) (past_start answer) standing break held_at_end s → talker_of answer ≡ Some p
       → CutBrings view r p None (answer_entries 0 (start_frame start) answer) (suc standing) break held_at_end s
   cut_added answer standing break held_at_end added talker =
-      subst (λ es. CutBrings view r p None es (suc standing) break held_at_end s) (sym (taken_entries (start_frame start) answer p talker)) (cut_brings_more view r m p (λ gs. gs ≡ began.now.flight.sent ∷ []) None (Some p) first began.added s held_at_end (after_start answer) standing break added)
+      subst (λ es. CutBrings view r p None es (suc standing) break held_at_end s) (sym (taken_entries (start_frame start) answer p talker)) (cut_brings_more view r m p (λ gs. gs ≡ began.now.flight.sent ∷ []) None (Some p) first began.added s held_at_end (past_start answer) standing break added)
 
   -- the premise on the entries shows where the drive stands
   near_talker : (answer : Answer) → talker_of answer ≡ Some p → list_all (is_from_here (drive_party r)) (answer_entries 0 (start_frame start) answer) ≡ true → drive_party r ≤ p
@@ -140,7 +140,7 @@ module _ {M : Type 0} (view : M → MediumView) (r m s : RingView M) (start : St
       let took = into.took in
       let answer = took.answer in
       let entries = taken_entries (start_frame start) answer p took.talker in
-      let split = met_parts view r m s None (Some p) (Some p) None first (after_start answer) ring began.now.ring began.added.adds took.added.adds in
+      let split = met_parts view r m s None (Some p) (Some p) None first (past_start answer) ring began.now.ring began.added.adds took.added.adds in
       record {
         answer = answer;
         legal = took.legal;
@@ -172,7 +172,7 @@ module _ {M : Type 0} (view : M → MediumView) (r m s : RingView M) (start : St
   not_took_answered w not_took =
       let answer = not_took.answer in
       let entries = taken_entries (start_frame start) answer p not_took.talker in
-      let cut = cut_at (after_start answer) not_took.standing not_took.break in
+      let cut = cut_at (past_start answer) not_took.standing not_took.break in
       let split = met_parts view r m s None (Some p) (Some p) not_took.held_at_end first cut ring began.now.ring began.added.adds not_took.added.adds in
       let all_unheard = unheard_then (devices_of r) (devices_of m) (devices_of s) began.unheard not_took.unheard in
       record {
@@ -185,7 +185,7 @@ module _ {M : Type 0} (view : M → MediumView) (r m s : RingView M) (start : St
           break = not_took.break;
           legal = ap (λ es. can_cut 0 es (suc not_took.standing) not_took.break) entries ∙ not_took.cuts;
           held_at_end = not_took.held_at_end;
-          told = λ none. not_took.ended ∙ cut_holds_none (Some p) (after_start answer) not_took.standing not_took.break (and_parts _ _ (subst (λ es. list_all is_no_nrd es ≡ true) entries none)).1;
+          told = λ none. not_took.ended ∙ cut_holds_none (Some p) (past_start answer) not_took.standing not_took.break (and_parts _ _ (subst (λ es. list_all is_no_nrd es ≡ true) entries none)).1;
           adds = (cut_added answer not_took.standing not_took.break not_took.held_at_end not_took.added not_took.talker).adds;
           ring = not_took.ring;
           held = not_took.held;
@@ -193,7 +193,7 @@ module _ {M : Type 0} (view : M → MediumView) (r m s : RingView M) (start : St
           unheard = λ none. all_unheard;
           brought = λ from. (cut_added answer not_took.standing not_took.break not_took.held_at_end not_took.added not_took.talker).near (near_talker answer not_took.talker from);
         };
-        ended = not_took.ended ∙ sym (cut_held None first (after_start answer) not_took.standing not_took.break not_took.cuts) ∙ ap (λ es. held_after None (cut_at es (suc not_took.standing) not_took.break)) (sym entries);
+        ended = not_took.ended ∙ sym (cut_held None first (past_start answer) not_took.standing not_took.break not_took.cuts) ∙ ap (λ es. held_after None (cut_at es (suc not_took.standing) not_took.break)) (sym entries);
         far = λ after. (cut_added answer not_took.standing not_took.break not_took.held_at_end not_took.added not_took.talker).far (far_talker answer not_took.talker after);
         unheard = all_unheard;
       }

@@ -21,7 +21,7 @@ use Rattle.il_ring.specs.Outcomes.{met_between}
 use Rattle.il_ring.proofs.Faults.{met_nowhere}
 use Rattle.il_control.specs.Calls.{Unheard}
 use Rattle.il_control.specs.Brought.{CutBrought}
-use Rattle.il_control.specs.Receives.{AddsBy, Brings, CutBrings, IsHolding, ReachesFault, ReachesNoFault, RelaysNext, Ended, DueAt, AtHeld, AtNext, AtEnd, RelayBroken, TakesSoFar, TakesWhole, TakesBroken, RelaysAs, FrontAt, Fronts, Stops, TakesInto, after_start, talker_of, is_stopped, received, fits, frames_of, sent_frames}
+use Rattle.il_control.specs.Receives.{AddsBy, Brings, CutBrings, IsHolding, ReachesFault, ReachesNoFault, RelaysNext, Ended, DueAt, AtHeld, AtNext, AtEnd, RelayBroken, TakesSoFar, TakesWhole, TakesBroken, RelaysAs, FrontAt, Fronts, Stops, TakesInto, past_start, talker_of, is_stopped, received, fits, frames_of, sent_frames}
 use Rattle.il_control.specs.declared.receiving.Front.TheVariants as front
 use Rattle.il_control.specs.declared.receiving.Onward.TheVariants as onward
 use Rattle.il_control.proofs.HeldAtEnd.{cut_held, echoes_source, severed_holds_none}
@@ -62,17 +62,17 @@ prepended_legal ds (Stopped p es last) echoes legal =
     and_from (not (p == 0)) (list_all is_echo (ds ++ es) && is_echo last) parts.0
     (and_from (list_all is_echo (ds ++ es)) (is_echo last) (list_all-append is_echo ds es ∙ and_from (list_all is_echo ds) (list_all is_echo es) echoes more.0) more.1)
 
-prepended_entries : (ds : List Echo) (answer : Answer) (p : ℕ) → talker_of answer ≡ Some p → after_start (prepended ds answer) ≡ map (echoed p) ds ++ after_start answer
+prepended_entries : (ds : List Echo) (answer : Answer) (p : ℕ) → talker_of answer ≡ Some p → past_start (prepended ds answer) ≡ map (echoed p) ds ++ past_start answer
 prepended_entries ds NotTaken p is = cc
 prepended_entries ds (ToItsEnd q es) p is =
     let same : q ≡ p = cc in
     ap (λ xs. xs ++ entry q eto (outcome.Taken 0) ∷ []) (map-append (echoed q) ds es) ∙ append_assoc (map (echoed q) ds) (map (echoed q) es) (entry q eto (outcome.Taken 0) ∷ [])
-    ∙ ap (λ p. map (echoed p) ds ++ after_start (ToItsEnd q es)) same
+    ∙ ap (λ p. map (echoed p) ds ++ past_start (ToItsEnd q es)) same
 prepended_entries ds (Stopped q es last) p is =
     let same : q ≡ p = cc in
     ap (λ xs. xs ++ returned 0 nrd ∷ echoed q last ∷ entry q eto (outcome.Taken 0) ∷ []) (map-append (echoed q) ds es)
     ∙ append_assoc (map (echoed q) ds) (map (echoed q) es) (returned 0 nrd ∷ echoed q last ∷ entry q eto (outcome.Taken 0) ∷ [])
-    ∙ ap (λ p. map (echoed p) ds ++ after_start (Stopped q es last)) same
+    ∙ ap (λ p. map (echoed p) ds ++ past_start (Stopped q es last)) same
 
 prepended_bytes : (ds : List Echo) (answer : Answer) (p : ℕ) → talker_of answer ≡ Some p → received (prepended ds answer) ≡ bytes_of ds ++ received answer
 prepended_bytes ds NotTaken p is = cc
@@ -162,9 +162,9 @@ took_then view m n s h stops bytes more so took =
     let talker = took.talker ∙ ap (λ p. Some p) so.source in
     let T : List Frame → Type 0 = λ gs. so.now.flight.sent ∷ gs ≡ sent_frames took.answer ++ eto ∷ [] in
     let U : List Frame → Type 0 = λ gs. h.flight.sent ∷ gs ≡ sent_frames (prepended so.ds took.answer) ++ eto ∷ [] in
-    let after : Brings view n p T (Some p) (after_start took.answer) None s = subst (λ p. Brings view n p T (Some p) (after_start took.answer) None s) so.source took.added in
+    let after : Brings view n p T (Some p) (past_start took.answer) None s = subst (λ p. Brings view n p T (Some p) (past_start took.answer) None s) so.source took.added in
     let clean = was_clean view m n h bytes so took.clean.0 in
-    let split = met_parts view m n s (Some p) (Some p) (Some p) None (map (echoed p) so.ds) (after_start took.answer) h.ring so.now.ring so.added.adds after.adds in
+    let split = met_parts view m n s (Some p) (Some p) (Some p) None (map (echoed p) so.ds) (past_start took.answer) h.ring so.now.ring so.added.adds after.adds in
     record {
       answer = prepended so.ds took.answer;
       talker = prepended_talker so.ds took.answer ∙ talker;
@@ -173,7 +173,7 @@ took_then view m n s h stops bytes more so took =
       alone = λ last. let so_alone = so.alone last in ap₂ (λ bytes more. bytes ++ more) so_alone.0 (took.alone so_alone.1) ∙ ap (λ f. byte_of f ∷ []) so_alone.2;
       bytes_are = ap (λ bytes. bytes ++ more) so.bytes_are ∙ ap (λ more. bytes_of so.ds ++ more) took.bytes_are ∙ sym (prepended_bytes so.ds took.answer p talker);
       added = subst (λ es. Brings view m p U (Some p) es None s) (sym (prepended_entries so.ds took.answer p talker))
-          (brings_more view m n p (λ gs. h.flight.sent ∷ gs ≡ frames_of so.ds ++ so.now.flight.sent ∷ []) (Some p) (Some p) (map (echoed p) so.ds) so.added s T U None (after_start took.answer) after
+          (brings_more view m n p (λ gs. h.flight.sent ∷ gs ≡ frames_of so.ds ++ so.now.flight.sent ∷ []) (Some p) (Some p) (map (echoed p) so.ds) so.added s T U None (past_start took.answer) after
           (λ gs hs first last.
           ap (λ gs. gs ++ hs) first ∙ append_assoc (frames_of so.ds) (so.now.flight.sent ∷ []) hs ∙ ap (λ hs. frames_of so.ds ++ hs) last ∙ sym (append_assoc (frames_of so.ds) (sent_frames took.answer) (eto ∷ []))
           ∙ ap (λ gs. gs ++ eto ∷ []) (sym (prepended_frames so.ds took.answer p talker))));
@@ -194,9 +194,9 @@ not_took_then view m n s h bytes v w so not_took sum =
     let p = h.flight.source in
     let answer = not_took.answer in
     let talker = not_took.talker ∙ ap (λ p. Some p) so.source in
-    let cut = cut_at (after_start answer) not_took.standing not_took.break in
-    let after : CutBrings view n p (Some p) (after_start answer) not_took.standing not_took.break not_took.held_at_end s =
-    subst (λ p. CutBrings view n p (Some p) (after_start answer) not_took.standing not_took.break not_took.held_at_end s) so.source not_took.added in
+    let cut = cut_at (past_start answer) not_took.standing not_took.break in
+    let after : CutBrings view n p (Some p) (past_start answer) not_took.standing not_took.break not_took.held_at_end s =
+    subst (λ p. CutBrings view n p (Some p) (past_start answer) not_took.standing not_took.break not_took.held_at_end s) so.source not_took.added in
     let split = met_parts view m n s (Some p) (Some p) (Some p) not_took.held_at_end (map (echoed p) so.ds) cut h.ring so.now.ring so.added.adds after.adds in
     let standing = after_all (map (echoed p) so.ds) not_took.standing in
     let entries = prepended_entries so.ds answer p talker in
@@ -208,17 +208,17 @@ not_took_then view m n s h bytes v w so not_took sum =
       fitting = prepended_fits so.ds answer v w (omega (arith, many, sum)) not_took.fitting;
       standing = standing;
       break = not_took.break;
-      cuts = ap (λ es. can_cut 0 es standing not_took.break) entries ∙ cut_legal (map (echoed p) so.ds) (after_start answer) not_took.standing not_took.break ∙ not_took.cuts;
+      cuts = ap (λ es. can_cut 0 es standing not_took.break) entries ∙ cut_legal (map (echoed p) so.ds) (past_start answer) not_took.standing not_took.break ∙ not_took.cuts;
       held_at_end = not_took.held_at_end;
       ended =
           not_took.ended
           ∙ ap (λ p. held_after (Some p) cut) so.source
           ∙ ap (λ before. held_after before cut) (sym (echoes_source p so.ds (is_device m h)))
-          ∙ sym (cut_held (Some p) (map (echoed p) so.ds) (after_start answer) not_took.standing not_took.break not_took.cuts)
-          ∙ ap (held_after (Some p)) (sym (cut_entries (map (echoed p) so.ds) (after_start answer) not_took.standing not_took.break))
+          ∙ sym (cut_held (Some p) (map (echoed p) so.ds) (past_start answer) not_took.standing not_took.break not_took.cuts)
+          ∙ ap (held_after (Some p)) (sym (cut_entries (map (echoed p) so.ds) (past_start answer) not_took.standing not_took.break))
           ∙ ap (λ es. held_after (Some p) (cut_at es standing not_took.break)) (sym entries);
       added = subst (λ es. CutBrings view m p (Some p) es standing not_took.break not_took.held_at_end s) (sym entries)
-          (cut_brings_more view m n p (λ gs. h.flight.sent ∷ gs ≡ frames_of so.ds ++ so.now.flight.sent ∷ []) (Some p) (Some p) (map (echoed p) so.ds) so.added s not_took.held_at_end (after_start answer) not_took.standing not_took.break after);
+          (cut_brings_more view m n p (λ gs. h.flight.sent ∷ gs ≡ frames_of so.ds ++ so.now.flight.sent ∷ []) (Some p) (Some p) (map (echoed p) so.ds) so.added s not_took.held_at_end (past_start answer) not_took.standing not_took.break after);
       ring = not_took.ring;
       held = not_took.held;
       spoilt =
@@ -243,7 +243,7 @@ ended_took view m s h byte ended is_byte =
       stopped = refl;
       bytes_are = ap (λ byte. byte ∷ []) (is_byte ∙ byte_sent m h ended.clean.0);
       alone = λ last. ap (λ byte. byte ∷ []) (is_byte ∙ byte_sent m h ended.clean.0);
-      added = added_as view m s p (Some p) (after_start (ToItsEnd p (d ∷ []))) None _ _ ended.added (λ k q gs outs said. (said.0, λ at. ap (λ gs. h.flight.sent ∷ gs) (said.1 at)));
+      added = added_as view m s p (Some p) (past_start (ToItsEnd p (d ∷ []))) None _ _ ended.added (λ k q gs outs said. (said.0, λ at. ap (λ gs. h.flight.sent ∷ gs) (said.1 at)));
       ring = ended.ring;
       held = ended.held;
       clean = ended.clean;
@@ -252,7 +252,7 @@ ended_took view m s h byte ended is_byte =
 
 -- a break at this entry of an answer
 pub breaks_at : {M : Type 0} (view : M → MediumView) (m s : RingView M) (h : IsHolding m) (w : ℕ) (answer : Answer) (xs rest : List Entry) (due : Entry) (break : Break) (held_at_end : Option ℕ) → talker_of answer ≡ Some h.flight.source → is_answer 0 answer ≡ true → fits w answer ≡ true
-    → after_start answer ≡ xs ++ due ∷ rest → is_break 0 due break ≡ true → held_at_end ≡ held_after (Some h.flight.source) (xs ++ break_entries due break)
+    → past_start answer ≡ xs ++ due ∷ rest → is_break 0 due break ≡ true → held_at_end ≡ held_after (Some h.flight.source) (xs ++ break_entries due break)
     → AddsBy view m h.flight.source (Some h.flight.source) (xs ++ break_entries due break) held_at_end (λ k q gs outs. CutBrought k q (xs ++ due ∷ []) (after_all xs 0) gs) s → IsRing s → s.books.held ≡ None → ReachesFault m h s → Unheard m s → TakesBroken view m h w s
 breaks_at view m s h w answer xs rest due break held_at_end talker legal fit entries is ended added ring held spoilt unheard =
     let standing = after_all xs 0 in

@@ -320,10 +320,10 @@ Begins view start r begun.Broken s = BeginBroken view start r s
 -- ---- all frames of a talker
 
 -- the entries after that of the start message
-abbrev pub after_start : Answer → List Entry
-after_start NotTaken = []
-after_start (ToItsEnd p ds) = map (echoed p) ds ++ entry p eto (outcome.Taken 0) ∷ []
-after_start (Stopped p ds last) = map (echoed p) ds ++ returned 0 nrd ∷ echoed p last ∷ entry p eto (outcome.Taken 0) ∷ []
+abbrev pub past_start : Answer → List Entry
+past_start NotTaken = []
+past_start (ToItsEnd p ds) = map (echoed p) ds ++ entry p eto (outcome.Taken 0) ∷ []
+past_start (Stopped p ds last) = map (echoed p) ds ++ returned 0 nrd ∷ echoed p last ∷ entry p eto (outcome.Taken 0) ∷ []
 
 -- This many of them came back right, and the next is held. There are none if the first is the last.
 pub record TakesSoFar {M : Type 0} (view : M → MediumView) (m : RingView M) (h : IsHolding m) (bytes : List ℕ) (s : RingView M) : Type 0 where
@@ -345,7 +345,7 @@ pub record TakesWhole {M : Type 0} (view : M → MediumView) (m : RingView M) (h
   pub stopped : is_stopped answer ≡ stops
   pub bytes_are : bytes ≡ received answer
   pub alone : h.own.last ≡ true → bytes ≡ byte_of h.flight.sent ∷ []
-  pub added : Brings view m h.flight.source (λ gs. h.flight.sent ∷ gs ≡ sent_frames answer ++ eto ∷ []) (Some h.flight.source) (after_start answer) None s
+  pub added : Brings view m h.flight.source (λ gs. h.flight.sent ∷ gs ≡ sent_frames answer ++ eto ∷ []) (Some h.flight.source) (past_start answer) None s
   pub ring : IsRing s
   pub held : s.books.held ≡ None
   pub clean : ReachesNoFault m h s
@@ -359,10 +359,10 @@ pub record TakesBroken {M : Type 0} (view : M → MediumView) (m : RingView M) (
   pub fitting : fits w answer ≡ true
   pub standing : ℕ
   pub break : Break
-  pub cuts : can_cut 0 (after_start answer) standing break ≡ true
+  pub cuts : can_cut 0 (past_start answer) standing break ≡ true
   pub held_at_end : Option ℕ
-  pub ended : held_at_end ≡ held_after (Some h.flight.source) (cut_at (after_start answer) standing break)
-  pub added : CutBrings view m h.flight.source (Some h.flight.source) (after_start answer) standing break held_at_end s
+  pub ended : held_at_end ≡ held_after (Some h.flight.source) (cut_at (past_start answer) standing break)
+  pub added : CutBrings view m h.flight.source (Some h.flight.source) (past_start answer) standing break held_at_end s
   pub ring : IsRing s
   pub held : s.books.held ≡ None
   pub spoilt : ReachesFault m h s

@@ -40,7 +40,7 @@ got reply.Ok lines = if_text lines
 got r lines = r
 
 -- such a reply is not ok
-never_ok : (r : Reply) → is_ok r ≡ false → r ≡ reply.Ok → (A : Type 0) → A
+pub never_ok : (r : Reply) → is_ok r ≡ false → r ≡ reply.Ok → (A : Type 0) → A
 never_ok r off is A = let clash : false ≡ true = sym off ∙ ap is_ok is in absurd (false_no clash)
   where
     false_no : false ≡ true → ⊥

@@ -1,7 +1,6 @@
 -- A command of the volume, as a host performs it.
 use Rattle.std.proofs.Common.{◌≡◌, ◌∙◌, ◌≤◌, ◌+◌, ◌-◌, ◌*◌, ◌++◌, ℕ, true, List, length, [], Option, None, Some, refl, sym, ap, subst, arith}
 use Rattle.std.specs.Prelude.{◌≢◌, if◌then◌else◌, Bool, false, Result, Ok, Err, IfSome, is_some, map}
-use Rattle.lif_dir.specs.declared.entries.Name.{Name}
 use Rattle.lif_dir.specs.Entries.{name_bytes, slot_bytes}
 use Rattle.lif_dir.specs.Names.{label_bytes, made_name}
 use Rattle.lif_model.proofs.Legal.{legal_tells}
@@ -136,7 +135,6 @@ nothing_told command volume s log _ is nothing = refl
 pub volume_request : (c : Command) (bytes : List ℕ) → IsOnVolume c → (command : VolumeCommand) × (request_of c bytes ≡ OfVolume command)
 volume_request command.Dir bytes on = (Dir, refl)
 volume_request command.Label bytes on = (Label, refl)
-volume_request (command.Fetch name) bytes on = (Fetch (name_bytes name), refl)
 volume_request (command.Store name kind implementation) bytes on = (Store (name_bytes (made_name name)) kind implementation bytes, refl)
 volume_request (command.Rename old new) bytes on = (Rename (name_bytes old) (name_bytes (made_name new)), refl)
 volume_request (command.Purge name) bytes on = (Purge (name_bytes name), refl)
@@ -145,18 +143,17 @@ volume_request command.Adopt bytes on = (Adopt, refl)
 volume_request command.Upgrade bytes on = (Upgrade, refl)
 volume_request _ bytes on = absurd on
 
--- one that is none of the three that tell something changes the volume, and tells nothing
-pub changes_volume : (c : Command) → IsOnVolume c → c ≢ command.Dir → c ≢ command.Label → ((name : Name) → c ≢ command.Fetch name) → ChangesVolume c
-changes_volume command.Dir on no_dir no_label no_fetch = absurd (no_dir refl)
-changes_volume command.Label on no_dir no_label no_fetch = absurd (no_label refl)
-changes_volume (command.Fetch name) on no_dir no_label no_fetch = absurd (no_fetch name refl)
-changes_volume (command.Store name kind implementation) on no_dir no_label no_fetch = tt
-changes_volume (command.Rename old new) on no_dir no_label no_fetch = tt
-changes_volume (command.Purge name) on no_dir no_label no_fetch = tt
-changes_volume (command.Format label slots) on no_dir no_label no_fetch = tt
-changes_volume command.Adopt on no_dir no_label no_fetch = tt
-changes_volume command.Upgrade on no_dir no_label no_fetch = tt
-changes_volume _ on no_dir no_label no_fetch = absurd on
+-- one that is neither of the two that tell something changes the volume, and tells nothing
+pub changes_volume : (c : Command) → IsOnVolume c → c ≢ command.Dir → c ≢ command.Label → ChangesVolume c
+changes_volume command.Dir on no_dir no_label = absurd (no_dir refl)
+changes_volume command.Label on no_dir no_label = absurd (no_label refl)
+changes_volume (command.Store name kind implementation) on no_dir no_label = tt
+changes_volume (command.Rename old new) on no_dir no_label = tt
+changes_volume (command.Purge name) on no_dir no_label = tt
+changes_volume (command.Format label slots) on no_dir no_label = tt
+changes_volume command.Adopt on no_dir no_label = tt
+changes_volume command.Upgrade on no_dir no_label = tt
+changes_volume _ on no_dir no_label = absurd on
 
 -- what is said of it
 pub on_volume : (P : VolumeCommand → Type 0) (c : Command) (bytes : List ℕ) → ChangesVolume c → OnVolume (request_of c bytes) P

@@ -21,6 +21,7 @@ worked_over view does leaves plan medium closed old now v w opens host worked cl
   did = subst (λ p. does worked.told p v.state w.state) opens.plan_is worked.did;
   tape = closes.tape;
   faults = closes.faults;
+  records = worked.size ∙ ap (λ (s : HostState). s.records) opens.state;
   size = count ∙ worked.size ∙ ap (λ (s : HostState). s.records) opens.state;
   before = closes.devices_before;
   after = closes.devices_after;

@@ -31,6 +31,7 @@ use Rattle.host_model.specs.Replies.{if_text, lines_of_file, lines_of_found, lin
 use Rattle.host_model.specs.Steps.{Event, Acts, event}
 use Rattle.host_model.proofs.NoCommands.{no_command}
 use Rattle.il_host.specs.HostView.{HostView, Performed}
+use Rattle.il_host.specs.Kept.{FileRead, GivesFile}
 use Rattle.il_host.specs.Hosts.{Space, IsUsable, host_in, loop_in, store_in, volume_in}
 use Rattle.il_host.specs.IsHosts.{is_host_at}
 use Rattle.il_host.specs.Texts.{data_text}
@@ -106,6 +107,26 @@ module _ {M I : Type 0} {D : I → Type 0} (view : M → MediumView) (seen : Rin
     (usable : IsUsable view (store_in view seen) (volume_in o) (loop_in seen o.records) text_space space) (began : Begun (store_in view seen o.records) (store_in view seen b.records))
     (law : (x : M) → IsMedium (view x)) (p : IsPrepared view seen o b f) (opened : IsOpen (store_in view seen) (volume_in f))
     (opens : IsOpen (store_in view seen) (volume_in n)) (low : HasDriveStatus (loop_in seen n.records).ring) where
+  -- the file that is held is that of the volume
+  pub file_read : (name : List ℕ) (file : Fetched) (into before : List ℕ) {shown : List ℕ} {held : FileRead} → held ≡ record { fetched = file; bytes = shown } → shown ≡ take file.length into
+      → FetchesFile name (store_in view seen) (volume_in f) file into → GivesFile (host_in view seen o before text_space space).state name held
+  file_read name file into before is same fetches =
+      subst (λ (h : FileRead). GivesFile (host_in view seen o before text_space space).state name h) (sym (is ∙ ap (λ (bytes : List ℕ). let h : FileRead = record { fetched = file; bytes = bytes } in h) same)) gives
+    where
+      gives : GivesFile (host_in view seen o before text_space space).state name (record { fetched = file; bytes = take file.length into })
+      gives t told =
+          let u = told_asked view seen o b n text_space space usable began (Fetch name) opens low p.m tt p.makes p.sounds p.same before (λ of. ap is_some told) in
+          let so = behind_prepared view seen o b f text_space space usable began law p n (Fetch name) u.0 u.2 in
+          let found = fetches so.tape so.told in (
+            found.volume,
+            ap (λ (tape : Option Tape). option_and_then finished_volume_of tape) u.1 ∙ sym so.finished.volume ∙ found.of_tape,
+            found.slot,
+            found.named,
+            found.kind,
+            found.implementation,
+            found.bytes,
+          )
+
   -- the lines that are told are those of the file
   pub lines_got : (name : List ℕ) (file : Fetched) (into shown before : List ℕ) → shown ≡ take file.length into
       → Reads (Fetch name) (store_in view seen) (volume_in f) (volume_in n) (Ok file) → FetchesFile name (store_in view seen) (volume_in f) file into → FetchesByRun name (store_in view seen) (volume_in f) (volume_in n) file into

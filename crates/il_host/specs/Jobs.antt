@@ -16,14 +16,14 @@ use Rattle.host_model.specs.HostStates.{HostState, fresh_host}
 use Rattle.host_model.specs.Orders.{asks_last}
 use Rattle.il_host.specs.HostView.{HostView, KeepsImages}
 
--- the devices before and behind the drive, and a second controller
+-- the devices before and after the drive, and a second controller
 pub record Devices : Type 0 where
   pub before : List DeviceState
   pub after : List DeviceState
   pub guest : Option GuestState
 
-abbrev pub devices_of : {M I : Type 0} {D : I → Type 0} → (DynBox I Global D → DeviceState) → Rig M I D → Devices
-devices_of state rig = record { before = map state rig.before.items; after = map state rig.after.items; guest = rig.guest }
+abbrev pub devices_beside : {M I : Type 0} {D : I → Type 0} → (DynBox I Global D → DeviceState) → Rig M I D → Devices
+devices_beside state rig = record { before = map state rig.before.items; after = map state rig.after.items; guest = rig.guest }
 
 -- Work was done with a host: between the two states, a stop within it leaves what it may leave, and no other image changes.
 pub record Worked {T : Type 0} (does : T → List Planned → HostState → HostState → Type 0) (leaves : T → HostState → HostState → Tape → Type 0) (v w : HostView) : Type 0 where
@@ -33,7 +33,7 @@ pub record Worked {T : Type 0} (does : T → List Planned → HostState → Host
   pub stops : is_some v.state.tape ≡ true → LeavesOnly v.moment w.moment v.left_since w.left_since (leaves told v.state w.state)
   pub images : KeepsImages v.inside w.inside v.images w.images
 
--- A host was opened on the medium v and these devices, the work was done, and w and the devices were handed back.
+-- A host was opened on the medium v and these devices, the work was done, and w and the devices were returned.
 pub record WorkedOver {T : Type 0} (does : T → List Planned → HostState → HostState → Type 0) (leaves : T → HostState → HostState → Tape → Type 0) (plan : List Planned)
     (v w : MediumView) (old now : Devices) : Type 0 where
   pub told : T
@@ -44,6 +44,7 @@ pub record WorkedOver {T : Type 0} (does : T → List Planned → HostState → 
   pub did : does told plan start finish
   pub tape : w.tape ≡ finish.tape
   pub faults : w.faults ≡ finish.faults
+  pub records : finish.records ≡ v.record_count
   pub size : w.record_count ≡ v.record_count
   pub before : now.before ≡ finish.loop.before
   pub after : now.after ++ guest_devices now.guest ≡ finish.loop.after

@@ -3,7 +3,7 @@ use Rattle.std.specs.Prelude.{◌≢◌, ◌<◌, ◌≤◌, Option, Some, Resul
 use Rattle.il_script.specs.declared.reply.Code.{Code}
 use Rattle.il_script.specs.declared.limits.TheConstants.{MOST_FRAMES}
 use Rattle.il_script.specs.declared.command.Command.{Command}
-use Rattle.il_script.specs.declared.command.Command.TheVariants.{Store, Put, Get, Rename, Purge, Format, Adopt, Upgrade, Pack, Begin, Commit, Devices, Status, Poll, Say, Paper, Lend}
+use Rattle.il_script.specs.declared.command.Command.TheVariants.{Store, Put, Get, Fetch, Rename, Purge, Format, Adopt, Upgrade, Pack, Begin, Commit, Devices, Status, Poll, Say, Paper, Lend}
 use Rattle.lif_model.specs.Apply.{VolumeCommand}
 use Rattle.host_model.specs.Requests.{Request, OfVolume}
 use Rattle.il_host.specs.declared.running.Asked.{Asked}
@@ -41,8 +41,9 @@ IsAlone asked = Unit {0}
 
 -- ---- commands of the volume
 
--- one that is performed as it is asked; a text is made or told beside it
+-- one that is performed as it is asked, and reads no file; a text is made beside some others
 abbrev pub IsOnVolume : Command → Type 0
+IsOnVolume (Fetch name) = ⊥
 IsOnVolume (Put name) = ⊥
 IsOnVolume (Get name) = ⊥
 IsOnVolume Pack = ⊥

@@ -1,6 +1,7 @@
-ghost use Rattle.std.specs.Prelude.{◌≡◌, ◌≤◌, length, IfOk};
+ghost use Rattle.std.specs.Prelude.{◌≡◌, ◌≤◌, length, take, vec_len, IfOk};
 ghost use Rattle.std.specs.Vec.{vec_capacity};
 
+use lif_volume::Fetched;
 use std::alloc::{AllocError, Global};
 
 /// The bytes of a file that is read. Memory is taken by `new`, and the first fetch fills it: a run that reads no file
@@ -9,7 +10,10 @@ use std::alloc::{AllocError, Global};
 pub(crate) struct FileBuffer {
     pub(crate) bytes: Vec<u8>,
     pub(crate) room: usize,
+    /// What the last fetch has told of its file, whose bytes are at the front.
+    pub(crate) fetched: Fetched,
     pub ghost fits: { room ≤ vec_capacity bytes },
+    pub ghost holds: { vec_len bytes ≤ room },
 }
 
 impl FileBuffer {
@@ -20,6 +24,11 @@ impl FileBuffer {
         Ok(FileBuffer {
             bytes: Vec::with_capacity(alloc, room)?,
             room,
+            fetched: Fetched {
+                kind: 0,
+                implementation: [0; 4],
+                length: 0,
+            },
         })
     }
 
@@ -29,5 +38,14 @@ impl FileBuffer {
         ensures room { self.new.room ≡ self.old.room }
     {
         self.bytes.resize(self.room, 0).unwrap();
+    }
+
+    /// The bytes of the file that was read last.
+    pub(crate) fn read(&self) -> &[u8]
+        ensures bytes { result.now ≡ take self.now.fetched.length self.now.bytes.items }
+        ensures within { length result.now ≤ self.now.room }
+    {
+        let count = self.fetched.length.min(self.bytes.len());
+        &self.bytes[..count]
     }
 }

@@ -15,10 +15,10 @@ use il_frames::Entry;
 use il_ports::{Medium, Records, Trouble};
 use il_record::{LoopRecords, Looped};
 use il_script::{Command, Page, Reply};
-use lif_dir::{Batch, SlotTable};
+use lif_dir::{Batch, Name, SlotTable};
 use lif_header::Header;
 use lif_pack::Packer;
-use lif_volume::Volume;
+use lif_volume::{Fetched, Volume};
 use std::marker::PhantomData;
 
 /// Performs commands on the tape that is in the drive, by frames on a loop.
@@ -37,9 +37,12 @@ impl<M: Medium + Drop> Performer for Host<M> {
     ghost use Rattle.il_host.specs.HostView.{HostView};
     ghost use Rattle.il_host.specs.Hosts.{host_in};
     ghost use Rattle.il_host.specs.IsHosts.{is_host_at};
+    ghost use Rattle.il_host.specs.Kept.{file_held};
 
     ghost view = { λ h. host_in M.view (ring_seen (λ b. (Device-box b).state b.value))
         h.volume h.page.text h.page.room (space_of h.file h.packer) };
+
+    ghost file = { λ h. file_held h.file };
 
     ghost is_host = { λ h valid. is_host_at M.view _ h.volume h.page.text h.page.room (space_of h.file h.packer) M.is_medium valid };
 
@@ -55,9 +58,9 @@ impl<M: Medium + Drop> Performer for Host<M> {
             Command::Put(name) => self.put(name, bytes),
             Command::Get(name) => self.get(name),
             Command::Pack => self.pack(),
+            Command::Fetch(name) => self.read_file(name),
             Command::Dir
             | Command::Label
-            | Command::Fetch(_)
             | Command::Store { .. }
             | Command::Rename { .. }
             | Command::Purge(_)
@@ -71,6 +74,15 @@ impl<M: Medium + Drop> Performer for Host<M> {
     fn perform_batch(&mut self, batch: &Batch) -> Reply {
         self.page.clear();
         self.on_batch(batch)
+    }
+
+    fn fetch(&mut self, name: &Name) -> Reply {
+        self.page.clear();
+        self.read_file(name)
+    }
+
+    fn file(&self) -> (Fetched, &[u8]) {
+        (self.file.fetched, self.file.read())
     }
 
     fn text(&self) -> &[u8] {
@@ -137,6 +149,7 @@ impl<M: Medium + Drop> Host<M> {
         requires room { length self.old.page.text + 23 ≤ self.old.page.room }
         ensures ended { Ends reply self.old.volume self.old.page (space_of self.old.file self.old.packer) result self.new.volume self.new.page (space_of self.new.file self.new.packer) }
         ensures drive { HasDriveStatus (⟦<LoopRecords<M> as Looped<M>>⟧.looped self.old.volume.records).ring }
+        ensures file { self.new.file ≡ self.old.file }
     {
         self.page.put(reply.last_line());
         reply

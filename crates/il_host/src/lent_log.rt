@@ -53,8 +53,8 @@ fn asked_after(party: u8, asked: Option<u8>, entry: Entry) -> Option<u8>
 }
 
 /// What is known of the address that is asked after the entry, which these follow.
-fn known_after(party: u8, known: Option<u8>, entry: Entry, after: &[Entry]) -> Option<u8>
-    ensures { result ≡ spec.known_after party known entry after.now }
+fn answer_known(party: u8, known: Option<u8>, entry: Entry, after: &[Entry]) -> Option<u8>
+    ensures { result ≡ spec.answer_known party known entry after.now }
 {
     if tells_none(party, entry) {
         None
@@ -74,7 +74,7 @@ pub(crate) fn last_status(log: &[Entry], party: u8, address: u8) -> Option<u8>
     let mut rest = log;
     while let [entry, after @ ..] = rest {
         if asked == Some(address) {
-            known = known_after(party, known, *entry, after);
+            known = answer_known(party, known, *entry, after);
         }
         asked = asked_after(party, asked, *entry);
         rest = after;

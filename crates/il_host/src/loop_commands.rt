@@ -1,4 +1,4 @@
-ghost use Rattle.std.specs.Prelude.{◌≡◌, ◌<◌, ◌≤◌, if◌then◌else◌, suc, [], length, None, option_map};
+ghost use Rattle.std.specs.Prelude.{◌≡◌, ◌<◌, ◌≤◌, if◌then◌else◌, suc, [], length, None, option_map, IfSome};
 ghost use Rattle.std.specs.List.{position};
 ghost use Rattle.il_ring.specs.Rings.{has_id, printer_id};
 ghost use Rattle.il_script.specs.declared.limits.TheConstants.{LONGEST_PAYLOAD, MOST_FRAMES};
@@ -178,7 +178,8 @@ fn printer_place(ids: &[Option<u8>]) -> Option<usize>
 
 /// The address of the first printer, by the accessory IDs of all devices. There are at most 30.
 fn printer_among(ids: &ArrayVec<Option<u8>, 30>) -> Option<u8>
-    ensures { result ≡ option_map suc (position (has_id printer_id) ids.now.items) }
+    ensures first { result ≡ option_map suc (position (has_id printer_id) ids.now.items) }
+    ensures bound { IfSome result (λ address. (1 ≤ address) × (address ≤ 30)) }
 {
     let place = printer_place(ids)?;
     Some(place as u8 + 1)

@@ -4,9 +4,12 @@ ghost use Rattle.lif_volume.specs.Commands.{IsReadyFor};
 ghost use Rattle.lif_volume.specs.Did.{Alters};
 ghost use Rattle.lif_model.specs.Apply as command;
 ghost use Rattle.lif_dir.specs.Batches.{parts_of};
+ghost use Rattle.lif_dir.specs.Entries.{name_bytes};
 ghost use Rattle.host_model.specs.Requests.{Asks, OfVolume, Pack, request_of};
 ghost use Rattle.il_host.specs.HostView.{Performed};
 ghost use Rattle.il_host.specs.Hosts.{volume_in, space_of};
+ghost use Rattle.il_host.specs.Kept.{GivesFile, file_held};
+ghost use Rattle.il_script.specs.declared.reply.Reply.TheVariants as reply;
 ghost use Rattle.il_host.specs.PlainCommands.{ChangesVolume, IsOnVolume, IsPlainCommand, OnVolume};
 ghost use Rattle.il_host.specs.Standings.{Ends, HasDriveStatus, volume_reply};
 
@@ -16,7 +19,7 @@ use crate::performer::Performer;
 use il_ports::{Medium, Records};
 use il_record::{LoopRecords, Looped};
 use il_script::{Code, Command, Reply};
-use lif_dir::Batch;
+use lif_dir::{Batch, Name};
 use lif_volume::{Volume, VolumeFault};
 
 impl<M: Medium + Drop> Host<M> {
@@ -47,21 +50,33 @@ impl<M: Medium + Drop> Host<M> {
                 }
                 Err(fault) => self.refused(fault),
             },
-            Command::Fetch(name) => {
-                self.file.fill();
-                match self.volume.fetch(name, &mut self.file.bytes) {
-                    Ok(fetched) => {
-                        let count = fetched.length.min(self.file.bytes.len());
-                        put_data(&mut self.page, &fetched, &self.file.bytes[..count]);
-                        self.answered(Reply::Ok)
-                    }
-                    Err(fault) => self.refused(fault),
-                }
-            }
             _ => {
                 let answer = alter(&mut self.volume, command, bytes);
                 self.ended(answer)
             }
+        }
+    }
+
+    /// Reads a file. The reply has its bytes.
+    pub(crate) fn read_file(&mut self, name: &Name) -> Reply
+        requires valid { (⟦<Host<M> as Performer>⟧.view self.old).valid }
+        requires blank { (⟦<Host<M> as Performer>⟧.view self.old).text ≡ [] }
+        ensures performed { Performed (Asks (OfVolume (command.Fetch (name_bytes name.now)))) result (⟦<Host<M> as Performer>⟧.view self.old) (⟦<Host<M> as Performer>⟧.view self.new) }
+        ensures read { result ≡ reply.Ok
+            → GivesFile (⟦<Host<M> as Performer>⟧.view self.old).state (name_bytes name.now) (file_held self.new.file) }
+    {
+        self.volume.begin();
+        if let Err(trouble) = self.prepare() {
+            return self.faulted(trouble);
+        }
+        self.file.fill();
+        match self.volume.fetch(name, &mut self.file.bytes) {
+            Ok(fetched) => {
+                self.file.fetched = fetched;
+                put_data(&mut self.page, &fetched, self.file.read());
+                self.answered(Reply::Ok)
+            }
+            Err(fault) => self.refused(fault),
         }
     }
 

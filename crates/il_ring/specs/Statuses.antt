@@ -60,8 +60,8 @@ abbrev pub reports_none : ℕ → Entry → Bool
 reports_none k e = (e.source == k) && (is_frame e.frame sst && is_back e.outcome)
 
 -- what is known of the address that is asked, after an entry that these follow
-abbrev pub known_after : ℕ → Option ℕ → Entry → List Entry → Option ℕ
-known_after k before e log =
+abbrev pub answer_known : ℕ → Option ℕ → Entry → List Entry → Option ℕ
+answer_known k before e log =
     if reports_none k e then None else (if is_reported k e log then Some (byte_of e.frame) else before)
 
 abbrev pub is_asked : ℕ → Option ℕ → Bool
@@ -72,7 +72,7 @@ is_asked a (Some b) = b == a
 abbrev pub known_of : ℕ → ℕ → Option ℕ → Option ℕ → List Entry → Option ℕ
 known_of k a asked before [] = before
 known_of k a asked before (e ∷ log) =
-    known_of k a (asked_after k asked e) (if is_asked a asked then known_after k before e log else before) log
+    known_of k a (asked_after k asked e) (if is_asked a asked then answer_known k before e log else before) log
 
 -- the last status of address a that was reported to party k: the byte of the last one, or none if SST came back since
 abbrev pub last_known : ℕ → ℕ → List Entry → Option ℕ

@@ -16,7 +16,7 @@ use Rattle.il_script.proofs.Spellings.{plain-first}
 
 -- ---- one byte
 
-one-byte : (b : ℕ) → b < 256 → IsBytes (b ∷ [])
+pub one-byte : (b : ℕ) → b < 256 → IsBytes (b ∷ [])
 one-byte b h zero = h
 one-byte b h (suc i) = omega arith
 
@@ -24,11 +24,11 @@ digits-read : (b : ℕ) → b < 256 → hex_bytes 1 (encode_upper (b ∷ [])) �
 unfolding encode_with
 digits-read b h = ap decoded (decode_of-encode_upper (b ∷ []) (one-byte b h))
 
-escaped-read : (b : ℕ) (text rest : List ℕ) → b < 256 → spelt text ≡ Some rest → spelt ((37 ∷ encode_upper (b ∷ [])) ++ text) ≡ Some (b ∷ rest)
+pub escaped-read : (b : ℕ) (text rest : List ℕ) → b < 256 → spelt text ≡ Some rest → spelt ((37 ∷ encode_upper (b ∷ [])) ++ text) ≡ Some (b ∷ rest)
 unfolding encode_with
 escaped-read b text rest h e = ap₂ bytes_before (digits-read b h) e
 
-byte-read : (b : ℕ) (p : Bool) (text rest : List ℕ) → is_plain b ≡ p → b < 256 → spelt text ≡ Some rest → spelt (cond p (b ∷ []) (37 ∷ encode_upper (b ∷ [])) ++ text) ≡ Some (b ∷ rest)
+pub byte-read : (b : ℕ) (p : Bool) (text rest : List ℕ) → is_plain b ≡ p → b < 256 → spelt text ≡ Some rest → spelt (cond p (b ∷ []) (37 ∷ encode_upper (b ∷ [])) ++ text) ≡ Some (b ∷ rest)
 byte-read b true text rest plain h e = plain-first b text plain ∙ ap (option_map (λ more. b ∷ more)) e
 byte-read b false text rest plain h e = escaped-read b text rest h e
 
@@ -38,7 +38,7 @@ bytes-read (b ∷ kept) h = byte-read b (is_plain b) (flat_map printed_byte kept
 
 -- ---- spaces at the end
 
-filled-up : (name : List ℕ) → trimmed name ++ replicate (length name - length (trimmed name)) 32 ≡ name
+pub filled-up : (name : List ℕ) → trimmed name ++ replicate (length name - length (trimmed name)) 32 ≡ name
 filled-up [] = refl
 filled-up (b ∷ name) = go (trimmed name) (filled-up name)
   where
@@ -56,7 +56,7 @@ filled-up (b ∷ name) = go (trimmed name) (filled-up name)
         let rest : suc (length name) - suc (length (x ∷ kept)) ≡ length name - length (x ∷ kept) = omega arith in
         ap (λ n. b ∷ ((x ∷ kept) ++ replicate n 32)) rest ∙ ap (λ l. b ∷ l) ih
 
-kept-bytes : (name : List ℕ) → IsBytes name → IsBytes (trimmed name)
+pub kept-bytes : (name : List ℕ) → IsBytes name → IsBytes (trimmed name)
 kept-bytes [] h = λ i. omega arith
 kept-bytes (b ∷ name) h = go (trimmed name) (kept-bytes name (λ i. h (suc i)))
   where
@@ -77,7 +77,7 @@ kept-bytes (b ∷ name) h = go (trimmed name) (kept-bytes name (λ i. h (suc i))
 is-within : (n m : ℕ) → n ≤ m → nat_le n m ≡ true
 is-within n m h = grind (arith, nat_tests)
 
-named : (bytes : List ℕ) (name : Name) → 1 ≤ length bytes → length bytes ≤ 10 → spaced bytes ≡ name_bytes name → name_of_bytes bytes ≡ Some name
+pub named : (bytes : List ℕ) (name : Name) → 1 ≤ length bytes → length bytes ≤ 10 → spaced bytes ≡ name_bytes name → name_of_bytes bytes ≡ Some name
 named bytes name some few is =
     ap₂ (λ a b. cond (a && b) (let n : Name = record { bytes = spaced bytes } in Some n) None) (is-within 1 (length bytes) some) (is-within (length bytes) 10 few)
     ∙ ap (λ (l : List ℕ). let n : Name = record { bytes = l } in Some n) is

@@ -13,7 +13,7 @@ mod spelling;
 mod words;
 
 pub use command::{Command, LineFault};
-pub use digits::{read_byte, read_number};
+pub use digits::{read_byte, read_hex, read_number};
 pub use limits::{
     KEPT_OF_LINE, LONGEST_LINE, LONGEST_PAYLOAD, LONGEST_SCRIPT, MOST_FRAMES, MOST_SLOTS,
 };
@@ -22,3 +22,4 @@ pub use page::Page;
 pub use payload::Payload;
 pub use reading::read_line;
 pub use reply::{Code, Reply};
+pub use spelling::spelt_name;

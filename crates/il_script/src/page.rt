@@ -124,7 +124,7 @@ impl Page {
     }
 
     /// Appends a byte of a name: itself, or a percent sign and two hex digits.
-    fn put_name_byte(&mut self, byte: u8)
+    pub fn put_name_byte(&mut self, byte: u8)
         requires { length self.old.text + 3 ≤ self.old.room }
         ensures text { self.new ≡ record self.old { text = self.old.text ++ printed_byte byte } }
         ensures size { length self.new.text ≤ length self.old.text + 3 }

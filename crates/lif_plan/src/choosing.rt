@@ -100,7 +100,7 @@ fn is_barred(barred: &[usize], slot: usize) -> bool
 }
 
 /// The place of the redo entry, or the number of slots where there is none.
-fn redo_place(slots: &SlotTable) -> usize
+pub fn redo_place(slots: &SlotTable) -> usize
     ensures value { result ≡ redo_place (map slot_bytes slots.now.slots) }
     ensures within { result ≤ length slots.now.slots }
     ensures bound { result < 2 ^ 32 }

@@ -11,7 +11,7 @@ mod placing;
 mod plans;
 
 pub use batches::{BatchPlan, PlannedFile};
-pub use choosing::{Choice, choose};
+pub use choosing::{Choice, choose, redo_place};
 pub use directory::{Directory, File, is_redo_entry, is_redo_file};
 pub use fresh::FreshVolume;
 pub use lif_model::Refusal;

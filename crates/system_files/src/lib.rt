@@ -76,7 +76,7 @@ impl TapeFile for SystemFile {
 }
 
 /// Says whether a file was synced, by the answer of its sync. If its file system has no sync, that is no error.
-fn sync_if_it_can(synced: io::Result<()>) -> io::Result<bool>
+pub fn sync_if_it_can(synced: io::Result<()>) -> io::Result<bool>
     ensures ok { synced ≡ Ok tt → result ≡ Ok true }
     ensures err { (e : _) → synced ≡ Err e → result ≡ (if has_no_sync (error_kind e) then Ok false else Err e) }
 {
@@ -90,7 +90,7 @@ fn sync_if_it_can(synced: io::Result<()>) -> io::Result<bool>
 }
 
 /// The folder of the file that a path names.
-fn folder_of(name: &str) -> &str
+pub fn folder_of(name: &str) -> &str
     ensures { IsFolderOf name.now result.now }
 {
     match name.rsplit_once('/') {

@@ -10,7 +10,7 @@ use Rattle.std.proofs.lemmas.List.Folds.{find-append, list_all-append}
 use Rattle.il_ports.specs.Media.{MediumView}
 use Rattle.tape.specs.declared.ending.Ending.{Ending}
 use Rattle.tape.specs.Endings.{is_done, is_last, ending_status}
-use Rattle.tape.specs.Several.{AreListed, DirsEnd, ImageListed, Written, status_for, status_of_all, status_or}
+use Rattle.tape.specs.Several.{AreListed, DirsEnd, ImageListed, Written, status_for, status_or}
 
 -- ---- the exit status
 

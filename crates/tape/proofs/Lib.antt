@@ -2,3 +2,4 @@ mod Mounts
 mod Inserts
 mod Chains
 mod Said
+mod Spelt

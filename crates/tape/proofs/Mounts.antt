@@ -1,5 +1,5 @@
 -- What a host does for a command of the volume, as jobs see it.
-use Rattle.std.proofs.Common.{◌≡◌, ◌⊎◌, ◌≤◌, ◌∙◌, ℕ, Bor, Bool, false, true, List, [], Option, Some, None, inl, inr, refl, sym, ap, subst}
+use Rattle.std.proofs.Common.{◌≡◌, ◌∙◌, ℕ, Bor, true, List, [], Option, Some, None, inl, inr, refl, sym, ap}
 use Rattle.std.specs.Prelude.{IfSome, is_some, option_map, option_and_then}
 use Rattle.lif_model.specs.Tape.{Tape}
 use Rattle.lif_model.specs.Volume.{Volume}
@@ -23,10 +23,10 @@ use Rattle.host_model.specs.Replies.{refused_as}
 use Rattle.host_model.specs.Steps.{CountsWhole, HasReplyCause}
 use Rattle.host_model.specs.Tapes.{only_reads, only_settles}
 use Rattle.host_model.specs.Directories.{kept_after_command}
-use Rattle.il_host.specs.HostView.{HostView, Performed, event_between}
-use Rattle.il_host.specs.Kept.{TellsKept}
-use Rattle.tape_jobs.specs.Volumes.{DoneWhole, Commanded, CountsFault, StopLeaves, OwnsGate, IsDirectoryAt, reply_by, volume_shown, changes_nothing, is_reading}
-use Rattle.tape.specs.Mounts.{mounted_in, mounted}
+use Rattle.il_host.specs.HostView.{HostView, Performed}
+use Rattle.il_host.specs.Kept.{FileRead, GivesFile, TellsKept}
+use Rattle.tape_jobs.specs.Volumes.{DoneWhole, Commanded, IsFileAt, content_by, file_on, CountsFault, StopLeaves, OwnsGate, IsDirectoryAt, reply_by, volume_shown, changes_nothing, is_reading}
+use Rattle.tape.specs.Mounts.{content_read, mounted_in, mounted}
 
 -- the tape that is told
 told_tape : (tape : Option Tape) (before : Option Volume) → option_map finished_volume_of tape ≡ Some before → (t : Tape) × (tape ≡ Some t) × (finished_volume_of t ≡ before)
@@ -141,3 +141,15 @@ kept_ok command r v w is ok = is ∙ ap (kept_after_command command) ok
 pub kept_directory : (v : HostView) (found : Option (HeaderParts × Bor Table)) → IfSome found (λ d. TellsKept v.state d.0 d.1.now.slots) → IfSome found (λ d. IsDirectoryAt (volume_shown v.state.tape) d.0 d.1.now.slots)
 kept_directory v None tells = tt
 kept_directory v (Some d) tells = kept_mounted v d.0 d.1.now.slots tells
+
+-- the file that a host has read is that of the volume which is shown
+pub read_mounted : (v : HostView) (name : List ℕ) (file : FileRead) → GivesFile v.state name file → IsFileAt (volume_shown v.state.tape) name (content_read file)
+read_mounted v name file reads volume is_shown =
+    let tape = told_tape v.state.tape (Some volume) is_shown in
+    let is = reads tape.0 tape.1 in
+    let same : volume ≡ is.0 = is_same (sym tape.2 ∙ sym (ap (λ (x : Option Tape). option_and_then finished_volume_of x) tape.1) ∙ is.1) in
+    ap (λ (u : Volume). file_on u name) same ∙ (λ i. content_by (is.3 i) (is.6 i))
+    ∙ (λ i. Some (record { kind = sym is.4 i; field = sym is.5 i; bytes = file.bytes }))
+  where
+    is_same : {a b : Volume} → Some a ≡ Some b → a ≡ b
+    is_same e = cc

@@ -3,4 +3,7 @@ pub mod Endings
 pub mod Images
 pub mod Messages
 pub mod Several
+pub mod Names
+pub mod Files
+pub mod Copies
 pub mod Performing

@@ -1,8 +1,9 @@
 -- What jobs see of a host.
-use Rattle.std.specs.Prelude.{◌≡◌, List, []}
+use Rattle.std.specs.Prelude.{◌≡◌, []}
 use Rattle.host_model.specs.HostStates.{HostState}
 use Rattle.il_host.specs.HostView.{HostView}
-use Rattle.tape_jobs.specs.Volumes.{Mounted, VolumesView}
+use Rattle.il_host.specs.Kept.{FileRead}
+use Rattle.tape_jobs.specs.Volumes.{FileContent, Mounted, VolumesView}
 
 -- the tape in the drive of a host
 abbrev pub mounted_in : HostState → Mounted
@@ -18,3 +19,7 @@ mounted v = record {
   moment = v.moment;
   left_since = v.left_since;
 }
+
+-- a file that a host has read
+abbrev pub content_read : FileRead → FileContent
+content_read file = record { kind = file.fetched.kind; field = file.fetched.implementation; bytes = file.bytes }

@@ -7,7 +7,7 @@ use Rattle.il_ports.specs.Media.{MediumView}
 use Rattle.il_ports.specs.Writing.{WritesFront}
 use Rattle.tape_jobs.specs.declared.listing.Style.{Style}
 use Rattle.tape_jobs.specs.declared.listing.Style.TheVariants as style
-use Rattle.tape_text.specs.Rows.{column_names, text_of}
+use Rattle.tape_text.specs.Rows.{column_names, row_line}
 use Rattle.tape.specs.declared.ending.Ending.{Ending}
 use Rattle.tape.specs.Endings.{ending_status, is_done, is_last}
 use Rattle.tape.specs.Images.{DirEnds}
@@ -22,6 +22,10 @@ pub record Written : Type 0 where
 
 abbrev pub written : (out : Option (List ℕ)) (out_faults : ℕ) (error : Option (List ℕ)) (error_faults : ℕ) → Written
 written out out_faults error error_faults = record { out = out; out_faults = out_faults; error = error; error_faults = error_faults }
+
+-- standard output is as before
+abbrev pub PrintsNothing : Written → Written → Type 0
+PrintsNothing old now = (now.out ≡ old.out) × (now.out_faults ≡ old.out_faults)
 
 -- the name before a listing: each image has one if the job has several
 abbrev pub heading_for : ℕ → List ℕ → Option (List ℕ)
@@ -75,8 +79,8 @@ pub record DirsEnd {M : Type 0} (view : M → MediumView) (csv : Bool) (all : Bo
 -- The first row of CSV could not be written, and the job ended; or it was written, and the images were listed.
 abbrev pub RowsEnd : {M : Type 0} → (M → MediumView) → (all : Bool) → List (List ℕ) → (status : ℕ) → (old now : Written) → Type 0
 RowsEnd view all names status old now =
-    ((status ≡ 6) × WritesFront old.out now.out (text_of column_names) × Rose old.out_faults now.out_faults)
-    ⊎ ((between : Written) × Appends old.out between.out (text_of column_names) × (between.out_faults ≡ old.out_faults)
+    ((status ≡ 6) × WritesFront old.out now.out (row_line column_names) × Rose old.out_faults now.out_faults)
+    ⊎ ((between : Written) × Appends old.out between.out (row_line column_names) × (between.out_faults ≡ old.out_faults)
     × (between.error ≡ old.error) × (between.error_faults ≡ old.error_faults) × DirsEnd view true all names status between now)
 
 -- The images of these names were listed, in columns or as CSV.

@@ -1,8 +1,11 @@
+use crate::copies::Folders;
 use crate::several::Drives;
 use il_ports::{FileMedium, ToChange};
+use std::alloc::{AllocError, Global};
 use std::fs::File;
 use std::rt::Files;
 use system_files::{SystemFile, SystemImages};
+use tape_folder::SystemFolder;
 
 /// Drives over the files of the system. Each opens its image to change it, or only to read it if the image may not be
 /// changed.
@@ -22,5 +25,24 @@ impl<R: Files<File = File> + Copy + Drop> Drives<FileMedium<SystemFile, SystemIm
     for SystemDrives<R> {
     fn drive(&mut self) -> FileMedium<SystemFile, SystemImages<R>, ToChange> {
         FileMedium::new(SystemImages::new(self.files))
+    }
+}
+
+/// Folders of the system, by their paths.
+#[derive(Drop)]
+pub struct SystemFolders<R: Files> {
+    files: R,
+}
+
+impl<R: Files<File = File> + Copy + Drop> SystemFolders<R> {
+    /// Folders among the files that the runtime gives.
+    pub fn new(files: R) -> SystemFolders<R> {
+        SystemFolders { files }
+    }
+}
+
+impl<R: Files<File = File> + Copy + Drop> Folders<SystemFolder<R>> for SystemFolders<R> {
+    fn folder(&mut self, alloc: Global, path: &str) -> Result<SystemFolder<R>, AllocError> {
+        SystemFolder::new(alloc, self.files, path)
     }
 }

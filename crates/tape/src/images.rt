@@ -1,34 +1,33 @@
 ghost use Rattle.std.specs.Prelude.{◌≡◌};
 ghost use Rattle.lif_model.specs.Shelf.{IsSize};
-ghost use Rattle.tape.specs.Images.{DirEnds, ListsTape};
+ghost use Rattle.tape.specs.Images.{DoneOrNot, JobEnds, WorksOnTape};
 
 use crate::ending::Ending;
-use crate::listing::Listing;
+use crate::hosted::Hosted;
 use il_host::{Rig, with_host};
-use il_ports::{Inserted, Medium, New, Sink};
+use il_ports::{Inserted, Medium, New};
 use std::alloc::Global;
-use tape_jobs::{Style, Went};
+use tape_jobs::{VolumeJob, Went};
 
-/// What a job on one image returns.
+/// What is returned of a job on one image.
 #[derive(Drop)]
-pub struct Returned<M: Drop, K: Drop> {
+pub struct Returned<M: Drop, J: Drop> {
     /// The medium, with the image in the drive if it was inserted.
     pub medium: M,
-    /// Standard output.
-    pub out: K,
+    /// The job.
+    pub job: J,
 }
 
-/// Opens a host on the tape that is in the drive, and lists it.
-fn list_tape<M: Medium + Drop, K: Sink + Drop>(
+/// Opens a host on the tape that is in the drive, and does the job.
+fn work_on_tape<M: Medium + Drop, J: VolumeJob + Drop>(
     alloc: Global,
     medium: M,
-    style: Style<'_>,
-    all: bool,
-    out: K,
-) -> (Went, Returned<M, K>)
+    job: J,
+) -> (Went, Returned<M, J>)
     requires size { IsSize (M.view medium).record_count }
-    ensures { ListsTape result.0 style.entry all (M.view medium) (M.view result.1.medium)
-        (K.written out) (K.written result.1.out) (K.faults out) (K.faults result.1.out) }
+    requires asks { J.asks job }
+    ensures { WorksOnTape (DoneOrNot (J.does job result.1.job) (result.1.job ≡ job) result.0) (J.leaves job)
+        (M.view medium) (M.view result.1.medium) }
 {
     let rig = Rig {
         medium,
@@ -36,46 +35,41 @@ fn list_tape<M: Medium + Drop, K: Sink + Drop>(
         after: Vec::new(alloc),
         guest: None,
     };
-    let mut job = Listing {
-        style,
-        all,
-        out,
-        went: Went::OutOfMemory,
-    };
-    match with_host(alloc, rig, &[], &mut job) {
+    let went = Went::OutOfMemory;
+    let mut hosted = Hosted { job, went };
+    match with_host(alloc, rig, &[], &mut hosted) {
         Ok(rig) => {
-            let Listing { out, went, .. } = job;
+            let Hosted { job, went } = hosted;
             let medium = rig.medium;
-            (went, Returned { medium, out })
+            (went, Returned { medium, job })
         }
         Err(refused) => {
             let medium = refused.rig.medium;
-            let out = job.out;
-            (Went::OutOfMemory, Returned { medium, out })
+            let job = hosted.job;
+            (Went::OutOfMemory, Returned { medium, job })
         }
     }
 }
 
-/// Lists the image of that name, in an empty drive.
-pub fn dir_image<M: Medium + Drop, K: Sink + Drop>(
+/// Does a job on the image of that name, in an empty drive.
+pub fn work_on_image<M: Medium + Drop, J: VolumeJob + Drop>(
     alloc: Global,
     mut medium: M,
     name: &str,
-    style: Style<'_>,
-    all: bool,
-    out: K,
-) -> (Ending, Returned<M, K>)
+    job: J,
+) -> (Ending, Returned<M, J>)
     requires empty { (M.view medium).record_count ≡ 0 }
-    ensures { DirEnds result.0 name.entry.now style.entry all (M.view medium) (M.view result.1.medium)
-        (K.written out) (K.written result.1.out) (K.faults out) (K.faults result.1.out) }
+    requires asks { J.asks job }
+    ensures { JobEnds (J.does job result.1.job) (J.leaves job) (result.1.job ≡ job) result.0 name.entry.now
+        (M.view medium) (M.view result.1.medium) }
 {
     match medium.insert(name, New::No) {
         Ok(Inserted::Tape) => {
-            let (went, returned) = list_tape(alloc, medium, style, all, out);
+            let (went, returned) = work_on_tape(alloc, medium, job);
             (Ending::Went(went), returned)
         }
-        Ok(Inserted::NoSuch) => (Ending::NoImage, Returned { medium, out }),
-        Ok(Inserted::BadSize(_)) => (Ending::ImageTooLarge, Returned { medium, out }),
-        Err(_) => (Ending::NotOpened, Returned { medium, out }),
+        Ok(Inserted::NoSuch) => (Ending::NoImage, Returned { medium, job }),
+        Ok(Inserted::BadSize(_)) => (Ending::ImageTooLarge, Returned { medium, job }),
+        Err(_) => (Ending::NotOpened, Returned { medium, job }),
     }
 }

@@ -1,16 +1,21 @@
-//! The program `tape`: lists images of tapes and discs, and what else its user does with them every day.
+//! The program `tape`: lists images of tapes and discs, takes files out of them, and what else its user does with them
+//! every day.
 #![tactic(auto)]
 
+mod copies;
+mod copy_messages;
 mod drives;
 mod ending;
+mod files;
+mod hosted;
 mod images;
-mod listing;
 mod messages;
 mod mounted;
+mod names;
 mod performing;
 mod several;
 
-use drives::SystemDrives;
+use drives::{SystemDrives, SystemFolders};
 use exits::exit;
 use il_ports::StdSink;
 use performing::perform;
@@ -26,6 +31,15 @@ fn main(rt: HostRuntime) -> ExitCode {
     let mut error = StdSink::new(rt.stderr());
     let out = StdSink::new(io::writer(&rt));
     let mut drives = SystemDrives::new(&rt);
-    let (status, _) = perform(rt.alloc(), words_of(&rt), &mut drives, out, &mut error);
+    let mut folders = SystemFolders::new(&rt);
+    let words = words_of(&rt);
+    let (status, _) = perform(
+        rt.alloc(),
+        words,
+        &mut drives,
+        &mut folders,
+        out,
+        &mut error,
+    );
     exit(status)
 }

@@ -2,17 +2,20 @@ ghost use Rattle.std.specs.Prelude.{◌≡◌, OnOk};
 ghost use Rattle.std.specs.Io.KnownBytes.{Appends};
 ghost use Rattle.std.specs.List.{flat_map};
 ghost use Rattle.lif_model.specs.Causes.{HasCause};
-ghost use Rattle.tape.specs.Messages.{WritesMessage, WritesEnding, program_line};
+ghost use Rattle.tape.specs.Messages.{WritesMessage, WritesEnding, WritesFileEnding, program_line};
+ghost use Rattle.tape.specs.Endings.{file_message};
 
 use crate::ending::Ending;
+use exits::OUT_OF_MEMORY;
 use il_ports::{Failed, Sink, write_all};
 
 /// The exit status if standard output could not be written.
 const OUTPUT_LOST: u8 = 6;
 
 /// Writes these texts, one after the other.
-fn write_parts<K: Sink>(to: &mut K, parts: &[&[u8]]) -> Result<(), Failed>
-    ensures parts { OnOk result (Appends (K.written to.old) (K.written to.new) (flat_map (λ part. part.now) parts.now)) }
+pub(crate) fn write_parts<K: Sink>(to: &mut K, parts: &[&[u8]]) -> Result<(), Failed>
+    ensures parts { OnOk result
+        (Appends (K.written to.old) (K.written to.new) (flat_map (λ part. part.now) parts.now)) }
     ensures cause { HasCause (K.faults to.old) (K.faults to.new) result }
 {
     'parts: for part in parts {
@@ -23,7 +26,8 @@ fn write_parts<K: Sink>(to: &mut K, parts: &[&[u8]]) -> Result<(), Failed>
 
 /// Writes a line of the program's own, after its name. It is lost if standard error cannot be written.
 pub fn write_message<K: Sink>(to: &mut K, text: &str)
-    ensures { WritesMessage (program_line text.now) (K.written to.old) (K.written to.new) (K.faults to.old) (K.faults to.new) }
+    ensures { WritesMessage (program_line text.now)
+        (K.written to.old) (K.written to.new) (K.faults to.old) (K.faults to.new) }
 {
     let _ = write_parts(to, &[b"tape: ", text.as_bytes(), b"\n"]);
 }
@@ -34,6 +38,14 @@ pub fn output_lost<K: Sink>(to: &mut K) -> u8
 {
     write_message(to, "standard output could not be written");
     OUTPUT_LOST
+}
+
+/// Writes that there is no memory, and says the exit status.
+pub fn no_memory<E: Sink>(error: &mut E) -> u8
+    ensures { result ≡ 7 }
+{
+    write_message(error, "there is not enough memory");
+    OUT_OF_MEMORY
 }
 
 /// Writes the message of a job on the image of that name, unless all was done.
@@ -52,6 +64,50 @@ pub fn write_ending<K: Sink>(to: &mut K, name: &str, ending: Ending)
             ending.cause(),
             ending.advice(),
             b"\n",
+        ],
+    );
+}
+
+/// Writes the message of a job on one file of an image.
+fn write_of_file<K: Sink>(to: &mut K, image: &str, file: &str, ending: Ending)
+    ensures { WritesMessage (file_message image.now file.now ending)
+        (K.written to.old) (K.written to.new) (K.faults to.old) (K.faults to.new) }
+{
+    let _ = write_parts(
+        to,
+        &[
+            b"tape: ",
+            image.as_bytes(),
+            b": ",
+            file.as_bytes(),
+            b": ",
+            ending.cause(),
+            ending.advice(),
+            b"\n",
+        ],
+    );
+}
+
+/// Writes the message of a job on one file of an image, unless all was done. It names the file if it concerns that one.
+pub fn write_file_ending<K: Sink>(to: &mut K, image: &str, file: &str, ending: Ending)
+    ensures { WritesFileEnding image.now file.now ending
+        (K.written to.old) (K.written to.new) (K.faults to.old) (K.faults to.new) }
+{
+    if ending.is_of_file() {
+        write_of_file(to, image, file, ending);
+    } else {
+        write_ending(to, image, ending);
+    }
+}
+
+/// Writes that a text is the name of no file.
+pub fn refuse_name<K: Sink>(to: &mut K, name: &str) {
+    let _ = write_parts(
+        to,
+        &[
+            b"tape: ",
+            name.as_bytes(),
+            b": a file has a name of one to ten bytes, of which %HH spells one\n",
         ],
     );
 }

@@ -3,11 +3,11 @@ ghost use Rattle.tape.specs.Endings.{is_last, is_done as done};
 ghost use Rattle.tape.specs.Several.{DirDone, DirsEnd, ImageListed, IsStyleFor, written};
 
 use crate::ending::Ending;
-use crate::images::{Returned, dir_image};
+use crate::images::{Returned, work_on_image};
 use crate::messages::{output_lost, write_ending};
 use il_ports::{Medium, Sink, write_all};
 use std::alloc::Global;
-use tape_jobs::Style;
+use tape_jobs::{Listing, Style};
 use tape_text::first_csv_row;
 
 /// Where drives come from: each image is inserted in a drive of its own.
@@ -49,10 +49,10 @@ fn dir_one<M: Medium + Drop, K: Sink + Drop, E: Sink>(
         (written (K.written result.1) (K.faults result.1) (E.written error.new) (E.faults error.new)) }
 {
     let style = style_for(csv, count, name);
-    let (ending, returned) = dir_image(alloc, drive, name, style, all, out);
+    let (ending, returned) = work_on_image(alloc, drive, name, Listing { style, all, out });
     write_ending(error, name, ending);
-    let Returned { out, .. } = returned;
-    (ending, out)
+    let Returned { job, .. } = returned;
+    (ending, job.out)
 }
 
 /// Whether a job on `count` images ends with this ending.

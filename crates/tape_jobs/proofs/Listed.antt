@@ -8,8 +8,8 @@ use Rattle.il_ports.specs.Writing.{WritesFront}
 use Rattle.tape_jobs.specs.Dir.{WritesListing, WritesText, styled_text, volume_text}
 use Rattle.tape_jobs.specs.Volumes.{IsDirectoryAt}
 use Rattle.tape_jobs.specs.declared.listing.Style.{Style}
-use Rattle.tape_jobs.specs.declared.listing.Went.{Went}
-use Rattle.tape_jobs.specs.declared.listing.Went.TheVariants as went
+use Rattle.tape_jobs.specs.declared.went.Went.{Went}
+use Rattle.tape_jobs.specs.declared.went.Went.TheVariants as went
 
 module _ (style : Style) (all : Bool) (n : ℕ) (shown : Option (Option Volume)) (header : HeaderParts) (slots : List Slot) (is : IsDirectoryAt shown header slots) where
   is_volume_text : (v : Volume) → shown ≡ Some (Some v) → styled_text style all n header slots ≡ volume_text style all n v
@@ -29,6 +29,9 @@ module _ (style : Style) (all : Bool) (n : ℕ) (shown : Option (Option Volume))
   listed went.OutOfMemory before now faults faults_now writes = writes
   listed (went.Refused code) before now faults faults_now writes = absurd writes
   listed went.Fault before now faults faults_now writes = absurd writes
+  listed went.NoSize before now faults faults_now writes = absurd writes
+  listed went.FolderLost before now faults faults_now writes = absurd writes
+  listed went.NotAll before now faults faults_now writes = absurd writes
 
   -- the text was made of these parts
   pub writes_listing : (size : ℕ) (first : HeaderParts) (entries : List Slot) → size ≡ n → first ≡ header → entries ≡ slots → (w : Went) (before now : Option (List ℕ)) (faults faults_now : ℕ)

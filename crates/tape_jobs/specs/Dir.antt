@@ -15,8 +15,8 @@ use Rattle.tape_text.specs.Rows.{rows_of, rows_text}
 use Rattle.tape_jobs.specs.Volumes.{Mounted, CommandDid, volume_shown}
 use Rattle.tape_jobs.specs.declared.listing.Style.{Style}
 use Rattle.tape_jobs.specs.declared.listing.Style.TheVariants as style
-use Rattle.tape_jobs.specs.declared.listing.Went.{Went}
-use Rattle.tape_jobs.specs.declared.listing.Went.TheVariants as went
+use Rattle.tape_jobs.specs.declared.went.Went.{Went}
+use Rattle.tape_jobs.specs.declared.went.Went.TheVariants as went
 
 -- the text for a volume on a medium of n records: a listing, after the name of its image if it has a heading; or rows of CSV
 abbrev pub styled_text : Style → Bool → ℕ → HeaderParts → List Slot → List ℕ

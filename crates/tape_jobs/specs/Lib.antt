@@ -1,2 +1,4 @@
 pub mod Volumes
 pub mod Dir
+pub mod Reading
+pub mod Out

@@ -1,6 +1,9 @@
 -- What jobs see of the image that is in the drive, and what a command of its volume does.
-use Rattle.std.specs.Prelude.{◌≡◌, ◌⊎◌, ◌≤◌, ℕ, Bool, true, false, List, map, option_map, option_and_then, Option, Some, None, is_some, IfSome}
+use Rattle.std.specs.Prelude.{◌≡◌, ◌⊎◌, ℕ, Bool, true, false, List, map, option_map, option_and_then, Option, Some, None, is_some, IfSome}
+use Rattle.std.specs.FinMap.{get}
 use Rattle.lif_model.specs.Causes.{Rose}
+use Rattle.lif_model.specs.Directory.{type_of, implementation_of}
+use Rattle.lif_model.specs.Legal.{slot_named}
 use Rattle.lif_model.specs.Stops.{LeavesOnly}
 use Rattle.lif_model.specs.Tape.{Tape}
 use Rattle.lif_model.specs.Shelf.{Shelf}
@@ -18,6 +21,7 @@ use Rattle.il_ports.specs.Inserting.{OthersAreKept}
 use Rattle.il_script.specs.Replies.{code_of}
 use Rattle.il_script.specs.declared.reply.Reply.{Reply}
 use Rattle.il_script.specs.declared.reply.Reply.TheVariants as reply
+use Rattle.tape_jobs.specs.declared.volumes.FileRead.{FileRead}
 
 -- the medium with the image in the drive
 pub record Mounted : Type 0 where
@@ -125,3 +129,27 @@ pub record IsDirectoryIn (header : HeaderParts) (slots : List Slot) (v : Volume)
 abbrev pub IsDirectoryAt : Option (Option Volume) → HeaderParts → List Slot → Type 0
 IsDirectoryAt shown header slots = (before : Option Volume) → shown ≡ Some before
     → (v : Volume) × (before ≡ Some v) × IsDirectoryIn header slots v
+
+-- ---- a file
+
+-- a file of a volume: its type, its implementation field, and the bytes of all its records
+pub record FileContent : Type 0 where
+  pub kind : ℕ
+  pub field : List ℕ
+  pub bytes : List ℕ
+
+-- what was read of it
+abbrev pub content_in : FileRead → FileContent
+content_in file = record { kind = file.kind; field = file.field; bytes = file.bytes.now }
+
+abbrev pub content_by : Option (List ℕ) → Option (List ℕ) → Option FileContent
+content_by (Some slot) (Some bytes) = Some (record { kind = type_of slot; field = implementation_of slot; bytes = bytes })
+content_by _ _ = None
+
+-- the file of that name
+abbrev pub file_on : Volume → List ℕ → Option FileContent
+file_on v name = content_by (slot_named v.slots name) (get v.files name)
+
+-- this is the file of that name, if contracts can see the volume
+abbrev pub IsFileAt : Option (Option Volume) → List ℕ → FileContent → Type 0
+IsFileAt shown name file = (v : Volume) → shown ≡ Some (Some v) → file_on v name ≡ Some file

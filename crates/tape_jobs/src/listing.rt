@@ -3,28 +3,15 @@ ghost use Rattle.lif_model.specs.Apply.{Dir};
 ghost use Rattle.tape_jobs.specs.Dir.{DirDid, WritesListing, WritesText, styled_text, volume_text};
 ghost use Rattle.tape_jobs.specs.Volumes.{StaysBeside, StopLeaves, volume_shown};
 
+use crate::job::VolumeJob;
 use crate::volumes::Volumes;
-use il_ports::{Sink, write_all};
-use il_script::{Code, Reply};
+use crate::went::{Went, written};
+use il_ports::Sink;
+use il_script::Reply;
 use lif_dir::SlotTable;
 use lif_header::Header;
 use std::alloc::Global;
 use tape_text::{csv_rows, listing};
-
-/// How a job on one image went.
-#[derive(Clone, Copy, Debug, PartialEq, Eq)]
-pub enum Went {
-    /// All was done.
-    Done,
-    /// The volume refused it.
-    Refused(Code),
-    /// The medium failed.
-    Fault,
-    /// Standard output could not be written.
-    Unwritten,
-    /// There was no memory.
-    OutOfMemory,
-}
 
 /// How a volume is listed.
 #[derive(Clone, Copy, Debug)]
@@ -33,16 +20,6 @@ pub enum Style<'a> {
     Columns(Option<&'a str>),
     /// As rows of CSV, which begin with the name of the image.
     Rows(&'a str),
-}
-
-/// Writes a text, and says how that went.
-fn written<K: Sink>(out: &mut K, text: &[u8]) -> Went
-    ensures { WritesText result text.now (K.written out.old) (K.written out.new) (K.faults out.old) (K.faults out.new) }
-{
-    match write_all(out, text) {
-        Ok(()) => Went::Done,
-        Err(_) => Went::Unwritten,
-    }
 }
 
 /// Writes the text for a volume with this header and these slots, on a medium of `size` records.
@@ -102,11 +79,40 @@ pub fn dir<V: Volumes, K: Sink>(
     ensures valid { (V.seen volumes.new).valid }
     ensures lists { DirDid result style.entry all (V.seen volumes.old).mounted (V.seen volumes.new).mounted
         (K.written out.old) (K.written out.new) (K.faults out.old) (K.faults out.new) }
-    ensures beside { StaysBeside (StopLeaves Dir (V.seen volumes.old).mounted) (V.seen volumes.old) (V.seen volumes.new) }
+    ensures beside { StaysBeside (StopLeaves Dir (V.seen volumes.old).mounted)
+        (V.seen volumes.old) (V.seen volumes.new) }
 {
     match volumes.list() {
         Reply::Ok => write_listing(alloc, volumes, style, all, out),
         Reply::No(code) => Went::Refused(code),
         Reply::FaultFrame | Reply::FaultMedium => Went::Fault,
+    }
+}
+
+/// The job `dir` on one image, which lists it on standard output.
+#[derive(Drop)]
+pub struct Listing<'a, K: Drop> {
+    /// How it is listed.
+    pub style: Style<'a>,
+    /// Whether the redo file is listed too.
+    pub all: bool,
+    /// Standard output.
+    pub out: K,
+}
+
+impl<'a, K: Sink + Drop> VolumeJob for Listing<'a, K> {
+    ghost use Rattle.lif_model.specs.Apply.{Dir};
+    ghost use Rattle.tape_jobs.specs.Dir.{DirDid};
+    ghost use Rattle.tape_jobs.specs.Volumes.{StopLeaves};
+
+    ghost asks = { λ job. Unit {0} };
+
+    ghost does = { λ old new went s t. DirDid went old.style old.all s t
+        (K.written old.out) (K.written new.out) (K.faults old.out) (K.faults new.out) };
+
+    ghost leaves = { λ job s x. StopLeaves Dir s x };
+
+    fn work<V: Volumes>(&mut self, alloc: Global, volumes: &mut V) -> Went {
+        dir(alloc, volumes, self.style, self.all, &mut self.out)
     }
 }

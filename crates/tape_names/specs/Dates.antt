@@ -34,8 +34,8 @@ moment_of date = record {
 }
 
 -- the same, if they are a date
-abbrev pub date_of : List ℕ → Option Moment
-date_of date = if is_date date then Some (moment_of date) else None
+abbrev pub date_in : List ℕ → Option Moment
+date_in date = if is_date date then Some (moment_of date) else None
 
 -- every part of a moment is in its range
 pub record IsInRange (m : Moment) : Type 0 where

@@ -1,3 +1,4 @@
 pub mod Types
 pub mod Sizes
 pub mod Dates
+pub mod HostNames

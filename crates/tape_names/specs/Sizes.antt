@@ -34,5 +34,5 @@ if_ends records None = None
 if_ends records (Some n) = if ends_in records n then Some n else None
 
 -- a number counts only if that many bytes end in the file's last record
-abbrev pub bytes_of : ℕ → List ℕ → ℕ → Option ℕ
-bytes_of kind field records = if_ends records (said_bytes kind field)
+abbrev pub bytes_told : ℕ → List ℕ → ℕ → Option ℕ
+bytes_told kind field records = if_ends records (said_bytes kind field)

@@ -1,5 +1,5 @@
 ghost use Rattle.std.specs.Prelude.{◌≡◌, IfSome};
-ghost use Rattle.tape_names.specs.Dates.{digits_of, is_part, is_date, year_of, moment_of, date_of, IsInRange};
+ghost use Rattle.tape_names.specs.Dates.{digits_of, is_part, is_date, year_of, moment_of, date_in, IsInRange};
 
 /// A date and a time of day, as a directory entry stores them.
 #[derive(Clone, Copy, Debug, PartialEq, Eq)]
@@ -71,8 +71,8 @@ fn moment_of(date: &[u8; 6]) -> Moment
 
 /// Returns the moment that the six bytes of a date write, or `None` if they are not a date: a digit is above 9, or a
 /// part is out of its range, as in six zeros.
-pub fn date_of(date: &[u8; 6]) -> Option<Moment>
-    ensures moment { result ≡ date_of date.now }
+pub fn date_in(date: &[u8; 6]) -> Option<Moment>
+    ensures moment { result ≡ date_in date.now }
     ensures ranges { IfSome result IsInRange }
 {
     if is_date(date) {

@@ -1,5 +1,5 @@
 ghost use Rattle.std.specs.Prelude.{◌≡◌, ◌<◌, ◌^◌, IfSome};
-ghost use Rattle.tape_names.specs.Sizes.{bytes_of, said_bytes};
+ghost use Rattle.tape_names.specs.Sizes.{bytes_told, said_bytes};
 
 /// Returns the number of bytes that the implementation field states for this type, or `None` if the type has no such
 /// number.
@@ -22,8 +22,8 @@ fn said_bytes(kind: u16, field: &[u8; 4]) -> Option<u64>
 
 /// Returns the number of bytes of a file that has this many records, if its implementation field states one and that
 /// many bytes end in the file's last record.
-pub fn bytes_of(kind: u16, field: &[u8; 4], records: u32) -> Option<u64>
-    ensures { result ≡ bytes_of kind field.now records }
+pub fn bytes_told(kind: u16, field: &[u8; 4], records: u32) -> Option<u64>
+    ensures { result ≡ bytes_told kind field.now records }
 {
     let said = said_bytes(kind, field)?;
     let least = 256 * u64::from(records.saturating_sub(1));

@@ -10,6 +10,9 @@ Usage: tape JOB [ARGUMENTS]
 
 Jobs:
   dir   Lists the files of each IMAGE
+  out   Copies files from IMAGE into FOLDER
+  get   Prints the lines of a text file
+  raw   Writes the bytes of a file, as many as its directory entry tells
   help  Explains a job, or lists all jobs
 
 Options:
@@ -33,6 +36,46 @@ Options:
       --help  Print this page
 ";
 
+const OUT: &str = "\
+Copies files from IMAGE into FOLDER
+
+Usage: tape out IMAGE FOLDER [NAME...]
+
+Arguments:
+  [IMAGE]    The image file
+  [FOLDER]   The folder that the files are copied into
+  [NAME]...  The name of a file; %HH is the byte HH hex
+
+Options:
+      --help  Print this page
+";
+
+const GET: &str = "\
+Prints the lines of a text file
+
+Usage: tape get IMAGE NAME
+
+Arguments:
+  [IMAGE]  The image file
+  [NAME]   The name of a file; %HH is the byte HH hex
+
+Options:
+      --help  Print this page
+";
+
+const RAW: &str = "\
+Writes the bytes of a file, as many as its directory entry tells
+
+Usage: tape raw IMAGE NAME
+
+Arguments:
+  [IMAGE]  The image file
+  [NAME]   The name of a file; %HH is the byte HH hex
+
+Options:
+      --help  Print this page
+";
+
 const HELP: &str = "\
 Explains a job, or lists all jobs
 
@@ -50,6 +93,9 @@ fn each_page_is_printed(rt: HostRuntime) -> Result<(), Fail> {
     for (topic, page) in [
         (None, PROGRAM),
         (Some(Topic::Dir), DIR),
+        (Some(Topic::Out), OUT),
+        (Some(Topic::Get), GET),
+        (Some(Topic::Raw), RAW),
         (Some(Topic::Help), HELP),
     ] {
         let text = help_text(rt.alloc(), topic)?;

@@ -59,8 +59,53 @@ fn arguments_ask_for_a_listing(rt: HostRuntime) -> Result<(), Fail> {
     Ok(())
 }
 
+/// Arguments, and the image, the folder and the names of the copy that they ask for.
+const COPIES: [(&str, &str, &str, &[&str]); 7] = [
+    ("out TAPE files", "TAPE", "files", &[]),
+    ("out TAPE files A", "TAPE", "files", &["A"]),
+    ("out TAPE files B A B", "TAPE", "files", &["B", "A", "B"]),
+    ("out TAPE files %20 A%2F", "TAPE", "files", &["%20", "A%2F"]),
+    ("out -- -t -f -n", "-t", "-f", &["-n"]),
+    ("out TAPE -- -f --help", "TAPE", "-f", &["--help"]),
+    ("out out get", "out", "get", &[]),
+];
+
+#[test]
+fn arguments_ask_for_a_copy(rt: HostRuntime) -> Result<(), Fail> {
+    for (text, image, folder, names) in COPIES {
+        let wanted = Job::Out {
+            image,
+            folder,
+            names,
+        };
+        assert!(rt; asks(rt.alloc(), text, wanted)?, "{text}");
+    }
+    Ok(())
+}
+
+/// Arguments after `get` or `raw`, and the image and the name that they give.
+const FILES: [(&str, &str, &str); 5] = [
+    ("TAPE NOTE", "TAPE", "NOTE"),
+    ("TAPE A%2FB", "TAPE", "A%2FB"),
+    ("TAPE -", "TAPE", "-"),
+    ("TAPE -- --help", "TAPE", "--help"),
+    ("get raw", "get", "raw"),
+];
+
+#[test]
+fn arguments_ask_for_a_file(rt: HostRuntime) -> Result<(), Fail> {
+    let alloc = rt.alloc();
+    for (text, image, name) in FILES {
+        let get = format!(in alloc; "get {text}")?;
+        let raw = format!(in alloc; "raw {text}")?;
+        assert!(rt; asks(alloc, &get, Job::Get { image, name })?, "{get}");
+        assert!(rt; asks(alloc, &raw, Job::Raw { image, name })?, "{raw}");
+    }
+    Ok(())
+}
+
 /// Arguments, and the job that they ask to explain.
-const HELPS: [(&str, Option<Topic>); 10] = [
+const HELPS: [(&str, Option<Topic>); 16] = [
     ("help", None),
     ("--help", None),
     ("--help --version", None),
@@ -69,6 +114,12 @@ const HELPS: [(&str, Option<Topic>); 10] = [
     ("help dir", Some(Topic::Dir)),
     ("dir --help", Some(Topic::Dir)),
     ("dir --help A --all", Some(Topic::Dir)),
+    ("help out", Some(Topic::Out)),
+    ("out --help", Some(Topic::Out)),
+    ("help get", Some(Topic::Get)),
+    ("get --help", Some(Topic::Get)),
+    ("help raw", Some(Topic::Raw)),
+    ("raw TAPE --help", Some(Topic::Raw)),
     ("help help", Some(Topic::Help)),
     ("help --help dir", Some(Topic::Help)),
 ];
@@ -103,7 +154,7 @@ fn refusal(alloc: Global, words: &[String]) -> Result<Option<String>, AllocError
 }
 
 /// Arguments that are refused, and how the message begins.
-const REFUSED: [(&str, &str); 20] = [
+const REFUSED: [(&str, &str); 29] = [
     (
         "",
         "Does one job with image files of HP-IL tapes and discs\n",
@@ -120,6 +171,33 @@ const REFUSED: [(&str, &str); 20] = [
         "dir --all --csv --",
         "tape: dir needs at least one IMAGE; 'tape help dir' explains it\n",
     ),
+    (
+        "out",
+        "tape: out needs IMAGE and FOLDER; 'tape help out' explains it\n",
+    ),
+    (
+        "out TAPE",
+        "tape: out needs IMAGE and FOLDER; 'tape help out' explains it\n",
+    ),
+    (
+        "get",
+        "tape: get needs IMAGE and NAME; 'tape help get' explains it\n",
+    ),
+    (
+        "get TAPE --",
+        "tape: get needs IMAGE and NAME; 'tape help get' explains it\n",
+    ),
+    (
+        "raw TAPE",
+        "tape: raw needs IMAGE and NAME; 'tape help raw' explains it\n",
+    ),
+    ("get TAPE A B", "tape: unexpected argument 'B' found\n"),
+    ("raw TAPE A B", "tape: unexpected argument 'B' found\n"),
+    (
+        "get --all TAPE A",
+        "tape: unexpected argument '--all' found\n",
+    ),
+    ("out TAPE -f", "tape: unexpected argument '-f' found\n"),
     (
         "help list",
         "tape: there is no job 'list'; 'tape help' lists the jobs\n",

@@ -13,10 +13,10 @@ use Rattle.lif_dir.specs.declared.entries.Slot.{Slot}
 use Rattle.lif_dir.specs.declared.entries.Slot.TheVariants.{Live, Purged}
 use Rattle.csv.specs.Writing.{is_blank, escaped, fields_text}
 use Rattle.tape_text.specs.Rows.{rows_of, rows_text}
-use Rattle.tape_text.specs.Listing.{two_digits, four_digits, day_text, time_text, names_of, sizes_of, rest_of, counted, used_of, free_of, listing_of}
+use Rattle.tape_text.specs.Listing.{digit_pair, four_digits, day_text, time_text, names_of, sizes_of, rest_of, plural_of, used_of, free_of, listing_of}
 
 unfoldable listing_on_literals : ⊤
-unfolding hex_on_literals digits two_at four_at name_of printed two_digits four_digits day_text time_text names_of sizes_of rest_of counted used_of free_of
+unfolding hex_on_literals digits two_at four_at name_of printed digit_pair four_digits day_text time_text names_of sizes_of rest_of plural_of used_of free_of
 listing_on_literals = tt
 
 unfoldable csv_on_literals : ⊤
@@ -55,9 +55,9 @@ abbrev slots : List Slot
 slots = startup ∷ gone ∷ sd ∷ gone ∷ notes ∷ gone ∷ games ∷ redo ∷ replicate 7 gone
 
 -- `1 file`, and not `1 files`
-counts : (counted 1 (codes "file") ≡ codes "1 file") × (counted 0 (codes "file") ≡ codes "0 files") × (counted 2 (codes "slot") ≡ codes "2 slots")
-    × (counted 1 (codes "file") ≡ codes "1 files" → ⊥)
-unfolding counted digits
+counts : (plural_of 1 (codes "file") ≡ codes "1 file") × (plural_of 0 (codes "file") ≡ codes "0 files") × (plural_of 2 (codes "slot") ≡ codes "2 slots")
+    × (plural_of 1 (codes "file") ≡ codes "1 files" → ⊥)
+unfolding plural_of digits
 counts = (refl, refl, refl, λ is. cc)
 
 -- without the redo file

@@ -2,3 +2,4 @@ mod Places
 mod Steps
 mod Reading
 mod Examples
+mod TextLines

@@ -12,7 +12,7 @@ use Rattle.lif_model.specs.Header.{HeaderParts}
 use Rattle.lif_dir.specs.declared.entries.FileEntry.{FileEntry}
 use Rattle.lif_dir.specs.declared.entries.Slot.{Slot}
 use Rattle.tape_text.specs.Listing.{shown_slot, shown_files}
-use Rattle.tape_text.specs.Rows.{file_row, empty_row, rows_or, rows_of, text_of, rows_text}
+use Rattle.tape_text.specs.Rows.{file_row, empty_row, rows_or, rows_of, row_line, rows_text}
 use Rattle.tape_text.proofs.Places.{pieces_next}
 
 -- one slot more
@@ -22,19 +22,19 @@ pub rows_next : (image : List ℕ) (h : HeaderParts) (all : Bool) (n : ℕ) (slo
 rows_next image h all n slots i x e =
     ap (λ (files : List FileEntry). rows_text (map (file_row image h) files)) (pieces_next (shown_slot all n) slots i x e)
     ∙ ap rows_text (map-append (file_row image h) (shown_files all n (take i slots)) (shown_slot all n x))
-    ∙ flat_map-append text_of (map (file_row image h) (shown_files all n (take i slots))) (map (file_row image h) (shown_slot all n x))
+    ∙ flat_map-append row_line (map (file_row image h) (shown_files all n (take i slots))) (map (file_row image h) (shown_slot all n x))
 
 -- ---- read back
 
 -- a row has a byte at least, the line feed
-text_some : (row : List (List ℕ)) → 1 ≤ length (text_of row)
+text_some : (row : List (List ℕ)) → 1 ≤ length (row_line row)
 text_some row =
     let blank : List ℕ = if is_blank default_writer row then 34 ∷ 34 ∷ [] else [] in
     omega (arith, length-append (row_body default_writer row) (blank ++ 10 ∷ []), length-append blank (10 ∷ []))
 
 rows_few : (rows : List (List (List ℕ))) → length rows ≤ length (rows_text rows)
 rows_few [] = omega arith
-rows_few (row ∷ rows) = omega (arith, length-append (text_of row) (rows_text rows), text_some row, rows_few rows)
+rows_few (row ∷ rows) = omega (arith, length-append (row_line row) (rows_text rows), text_some row, rows_few rows)
 
 -- csv's reader gives back what was written, row by row, and then finds the end
 read_rows : (rows : List (List (List ℕ))) (n : ℕ) → length rows ≤ n → records_from default_config n st.StartRecord (rows_text rows) ≡ map read_back rows

@@ -11,7 +11,7 @@ use Rattle.lif_model.specs.Fit.{purged_from}
 use Rattle.lif_dir.specs.Entries.{slot_bytes}
 use Rattle.lif_dir.specs.declared.entries.Slot.{Slot}
 use Rattle.tape_text.specs.declared.columns.Widths.{Widths}
-use Rattle.tape_text.specs.Listing.{shown_slot, shown_files, widths_of, no_widths, wider, file_line, slot_records, records_held}
+use Rattle.tape_text.specs.Listing.{shown_slot, shown_files, widths_of, no_widths, wider, listed_line, slot_records, records_held}
 use Rattle.tape_text.proofs.Places.{pieces_next}
 
 pub widths_next : (all : Bool) (n : ℕ) (slots : List Slot) (i : ℕ) (x : Slot) → slice_get slots i ≡ Some x
@@ -20,9 +20,9 @@ widths_next all n slots i x e =
     ap (fold wider no_widths) (pieces_next (shown_slot all n) slots i x e) ∙ fold-append wider no_widths (shown_files all n (take i slots)) (shown_slot all n x)
 
 pub lines_next : (w : Widths) (all : Bool) (n : ℕ) (slots : List Slot) (i : ℕ) (x : Slot) → slice_get slots i ≡ Some x
-    → flat_map (file_line w) (shown_files all n (take (i + 1) slots)) ≡ flat_map (file_line w) (shown_files all n (take i slots)) ++ flat_map (file_line w) (shown_slot all n x)
+    → flat_map (listed_line w) (shown_files all n (take (i + 1) slots)) ≡ flat_map (listed_line w) (shown_files all n (take i slots)) ++ flat_map (listed_line w) (shown_slot all n x)
 lines_next w all n slots i x e =
-    ap (flat_map (file_line w)) (pieces_next (shown_slot all n) slots i x e) ∙ flat_map-append (file_line w) (shown_files all n (take i slots)) (shown_slot all n x)
+    ap (flat_map (listed_line w)) (pieces_next (shown_slot all n) slots i x e) ∙ flat_map-append (listed_line w) (shown_files all n (take i slots)) (shown_slot all n x)
 
 pub files_next : (all : Bool) (n : ℕ) (slots : List Slot) (i : ℕ) (x : Slot) → slice_get slots i ≡ Some x
     → length (shown_files all n (take (i + 1) slots)) ≡ length (shown_files all n (take i slots)) + length (shown_slot all n x)

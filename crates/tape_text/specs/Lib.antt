@@ -1,3 +1,4 @@
 pub mod Listing
 pub mod Columns
 pub mod Rows
+pub mod Texts

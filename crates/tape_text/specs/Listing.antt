@@ -14,9 +14,9 @@ use Rattle.lif_dir.specs.declared.entries.Slot.TheVariants.{Live, Purged, End}
 use Rattle.tape_text.specs.declared.columns.Widths.{Widths}
 use Rattle.tape_text.specs.declared.volume.Room.{Room}
 use Rattle.tape_names.specs.Types.{type_name}
-use Rattle.tape_names.specs.Sizes.{bytes_of}
+use Rattle.tape_names.specs.Sizes.{bytes_told}
 use Rattle.tape_names.specs.declared.dates.Moment.{Moment}
-use Rattle.tape_names.specs.Dates.{date_of}
+use Rattle.tape_names.specs.Dates.{date_in}
 
 -- ---- which files have a line
 
@@ -40,19 +40,19 @@ number_or_minus None = codes "-"
 number_or_minus (Some n) = decimal n
 
 -- two digits of a number below 100, and four of one below 10,000
-unfoldable pub two_digits : ℕ → List ℕ
-two_digits n = (48 + n / 10) ∷ (48 + n % 10) ∷ []
+unfoldable pub digit_pair : ℕ → List ℕ
+digit_pair n = (48 + n / 10) ∷ (48 + n % 10) ∷ []
 
 unfoldable pub four_digits : ℕ → List ℕ
-four_digits n = two_digits (n / 100) ++ two_digits (n % 100)
+four_digits n = digit_pair (n / 100) ++ digit_pair (n % 100)
 
 -- `1985-11-23`
 unfoldable pub day_text : Moment → List ℕ
-day_text m = four_digits m.year ++ codes "-" ++ two_digits m.month ++ codes "-" ++ two_digits m.day
+day_text m = four_digits m.year ++ codes "-" ++ digit_pair m.month ++ codes "-" ++ digit_pair m.day
 
 -- `14:30`
 unfoldable pub time_text : Moment → List ℕ
-time_text m = two_digits m.hour ++ codes ":" ++ two_digits m.minute
+time_text m = digit_pair m.hour ++ codes ":" ++ digit_pair m.minute
 
 -- `1985-11-23 14:30`, or a minus sign
 abbrev pub date_text : Option Moment → List ℕ
@@ -76,10 +76,10 @@ abbrev pub records_cell : FileEntry → List ℕ
 records_cell e = decimal e.length
 
 abbrev pub bytes_cell : FileEntry → List ℕ
-bytes_cell e = number_or_minus (bytes_of e.kind e.implementation e.length)
+bytes_cell e = number_or_minus (bytes_told e.kind e.implementation e.length)
 
 abbrev pub date_cell : FileEntry → List ℕ
-date_cell e = date_text (date_of e.date)
+date_cell e = date_text (date_in e.date)
 
 abbrev pub field_cell : FileEntry → List ℕ
 field_cell e = encode_upper e.implementation
@@ -124,8 +124,8 @@ unfoldable pub rest_of : Widths → FileEntry → List ℕ
 rest_of w e = left w.date (date_cell e) ++ codes "  " ++ field_cell e ++ codes "\n"
 
 -- `STARTUP  E214 BASIC    4 records   777 bytes  1985-11-23 14:30  12060000`
-abbrev pub file_line : Widths → FileEntry → List ℕ
-file_line w e = names_of w e ++ sizes_of w e ++ rest_of w e
+abbrev pub listed_line : Widths → FileEntry → List ℕ
+listed_line w e = names_of w e ++ sizes_of w e ++ rest_of w e
 
 -- ---- the volume
 
@@ -148,26 +148,26 @@ room_of n h slots = record {
 }
 
 -- `1 file`, `2 files`
-unfoldable pub counted : ℕ → List ℕ → List ℕ
-counted n noun = decimal n ++ codes " " ++ noun ++ (if n == 1 then [] else codes "s")
+unfoldable pub plural_of : ℕ → List ℕ → List ℕ
+plural_of n noun = decimal n ++ codes " " ++ noun ++ (if n == 1 then [] else codes "s")
 
 -- `volume HP71, 4 files, 3 purged, `
 unfoldable pub used_of : HeaderParts → Room → List ℕ
-used_of h room = codes "volume " ++ printed h.label ++ codes ", " ++ counted room.files (codes "file") ++ codes ", " ++ decimal room.purged ++ codes " purged, "
+used_of h room = codes "volume " ++ printed h.label ++ codes ", " ++ plural_of room.files (codes "file") ++ codes ", " ++ decimal room.purged ++ codes " purged, "
 
 -- `9 slots free, 431 records free`
 unfoldable pub free_of : Room → List ℕ
-free_of room = counted room.slots (codes "slot") ++ codes " free, " ++ counted room.records (codes "record") ++ codes " free\n"
+free_of room = plural_of room.slots (codes "slot") ++ codes " free, " ++ plural_of room.records (codes "record") ++ codes " free\n"
 
 -- `volume HP71, 4 files, 3 purged, 9 slots free, 431 records free`
-abbrev pub volume_line : HeaderParts → Room → List ℕ
-volume_line h room = used_of h room ++ free_of room
+abbrev pub volume_summary : HeaderParts → Room → List ℕ
+volume_summary h room = used_of h room ++ free_of room
 
 -- the text of a volume on a medium of n records, with the redo file's line or without it
 abbrev pub listing_of : Bool → ℕ → HeaderParts → List Slot → List ℕ
 listing_of all n h slots =
     let files = shown_files all n slots in
-    volume_line h (room_of n h slots) ++ flat_map (file_line (widths_of files)) files
+    volume_summary h (room_of n h slots) ++ flat_map (listed_line (widths_of files)) files
 
 -- the name of an image, as a line before its text
 abbrev pub heading_of : Option (List ℕ) → List ℕ

@@ -36,8 +36,8 @@ abbrev pub rows_of : Bool → ℕ → List ℕ → HeaderParts → List Slot →
 rows_of all n image h slots = rows_or (empty_row image h) (map (file_row image h) (shown_files all n slots))
 
 -- fields separated by commas, quoted if they hold a comma, a quote, CR or LF; a line feed ends a row
-abbrev pub text_of : List (List ℕ) → List ℕ
-text_of row = row_text default_writer row
+abbrev pub row_line : List (List ℕ) → List ℕ
+row_line row = row_text default_writer row
 
 abbrev pub rows_text : List (List (List ℕ)) → List ℕ
-rows_text rows = flat_map text_of rows
+rows_text rows = flat_map row_line rows

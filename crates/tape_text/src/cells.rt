@@ -9,7 +9,7 @@ use il_script::Page;
 use itoa::Buffer;
 use lif_dir::FileEntry;
 use lif_header::Header;
-use tape_names::{bytes_of, type_name};
+use tape_names::{bytes_told, type_name};
 
 /// The most bytes that an entry of a column can have.
 pub const WIDEST: usize = 40;
@@ -57,7 +57,7 @@ pub(crate) fn bytes(cell: &mut Page, entry: &FileEntry)
 {
     cell.clear();
     let mut buffer = Buffer::new();
-    match bytes_of(entry.kind, &entry.implementation, entry.length) {
+    match bytes_told(entry.kind, &entry.implementation, entry.length) {
         Some(count) => cell.put(buffer.format(count).as_bytes()),
         None => cell.put(b"-"),
     }

@@ -1,17 +1,17 @@
 //! Dates as they are printed.
 ghost use Rattle.std.specs.Prelude.{◌≡◌, ◌≤◌, ◌<◌, ◌+◌, ◌++◌, length};
-ghost use Rattle.tape_names.specs.Dates.{IsInRange, date_of};
-ghost use Rattle.tape_text.specs.Listing.{two_digits, four_digits, day_text, time_text, date_text};
+ghost use Rattle.tape_names.specs.Dates.{IsInRange, date_in};
+ghost use Rattle.tape_text.specs.Listing.{digit_pair, four_digits, day_text, time_text, date_text};
 
 use il_script::Page;
-use tape_names::{Moment, date_of};
+use tape_names::{Moment, date_in};
 
 /// Appends a number below 100 as two digits.
-#[tactic(auto, unfolding(crate::specs::Listing::two_digits))]
+#[tactic(auto, unfolding(crate::specs::Listing::digit_pair))]
 fn put_two(page: &mut Page, number: u8)
     requires number { number < 100 }
     requires room { length page.old.text + 2 ≤ page.old.room }
-    ensures text { page.new ≡ record page.old { text = page.old.text ++ two_digits number } }
+    ensures text { page.new ≡ record page.old { text = page.old.text ++ digit_pair number } }
     ensures size { length page.new.text ≡ length page.old.text + 2 }
 {
     page.put(&[b'0' + number / 10, b'0' + number % 10]);
@@ -60,10 +60,10 @@ fn put_time(page: &mut Page, moment: Moment)
 /// Appends the date that six bytes write, or a minus sign if they are not a date.
 pub(crate) fn put_date(page: &mut Page, date: &[u8; 6])
     requires { length page.old.text + 16 ≤ page.old.room }
-    ensures text { page.new ≡ record page.old { text = page.old.text ++ date_text (date_of date.now) } }
+    ensures text { page.new ≡ record page.old { text = page.old.text ++ date_text (date_in date.now) } }
     ensures size { length page.new.text ≤ length page.old.text + 16 }
 {
-    match date_of(date) {
+    match date_in(date) {
         Some(moment) => {
             put_day(page, moment);
             page.put(b" ");

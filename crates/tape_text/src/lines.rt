@@ -1,7 +1,7 @@
 //! The text of a volume: its line, and the lines of its files.
 ghost use Rattle.std.specs.Prelude.{◌≡◌, ◌≤◌, ◌<◌, ◌+◌, ◌*◌, ◌^◌, ◌++◌, length, option_map, IfOk};
 ghost use Rattle.std.specs.List.{flat_map};
-ghost use Rattle.tape_text.specs.Listing.{names_of, sizes_of, rest_of, file_line, heading_of, shown_slot, listing_of};
+ghost use Rattle.tape_text.specs.Listing.{names_of, sizes_of, rest_of, listed_line, heading_of, shown_slot, listing_of};
 ghost use Rattle.tape_text.specs.Columns.{AreNarrow};
 
 use crate::cells::{self, WIDEST};
@@ -74,7 +74,7 @@ fn put_line(page: &mut Page, cell: &mut Page, widths: Widths, entry: &FileEntry)
     requires cell { cell.old.room ≡ WIDEST }
     requires narrow { AreNarrow widths }
     requires room { length page.old.text + LINE ≤ page.old.room }
-    ensures text { page.new ≡ record page.old { text = page.old.text ++ file_line widths entry.now } }
+    ensures text { page.new ≡ record page.old { text = page.old.text ++ listed_line widths entry.now } }
     ensures size { length page.new.text ≤ length page.old.text + LINE }
     ensures cell { cell.new.room ≡ WIDEST }
 {
@@ -89,7 +89,7 @@ fn put_slot(page: &mut Page, cell: &mut Page, widths: Widths, all: bool, size: u
     requires narrow { AreNarrow widths }
     requires room { length page.old.text + LINE ≤ page.old.room }
     ensures text { page.new
-        ≡ record page.old { text = page.old.text ++ flat_map (file_line widths) (shown_slot all size slot.now) } }
+        ≡ record page.old { text = page.old.text ++ flat_map (listed_line widths) (shown_slot all size slot.now) } }
     ensures size { length page.new.text ≤ length page.old.text + LINE }
     ensures cell { cell.new.room ≡ WIDEST }
 {

@@ -3,7 +3,7 @@ ghost use Rattle.std.specs.Prelude.{◌≡◌, ◌++◌, [], ◌∷◌, map, OnO
 ghost use Rattle.csv.specs.Reading.{default_config, records};
 ghost use Rattle.csv.specs.Records.{fields_of, partial_of};
 ghost use Rattle.tape_text.specs.Listing.{shown_slot, shown_files};
-ghost use Rattle.tape_text.specs.Rows.{column_names, names_in, numbers_in, file_row, empty_row, rows_of, text_of};
+ghost use Rattle.tape_text.specs.Rows.{column_names, names_in, numbers_in, file_row, empty_row, rows_of, row_line};
 ghost use Rattle.tape_text.specs.Rows.{rows_text};
 
 use crate::cells::{self, WIDEST};
@@ -69,7 +69,7 @@ fn put_numbers(row: &mut ByteRecord, cell: &mut Page, entry: &FileEntry) -> Resu
 
 /// Returns the text of one row. The only error is want of memory.
 fn row_bytes(alloc: Global, row: &ByteRecord) -> Result<Vec<u8>, AllocError>
-    ensures { IfOk result (λ text. text.items ≡ text_of (fields_of row.now)) }
+    ensures { IfOk result (λ text. text.items ≡ row_line (fields_of row.now)) }
 {
     let mut writer = WriterBuilder::new().from_writer(Vec::new(alloc));
     match writer.write_byte_record(row) {
@@ -92,7 +92,7 @@ fn put_file(
 ) -> Result<(), AllocError>
     requires cell { cell.old.room ≡ WIDEST }
     ensures text { OnOk result (text.new.items
-        ≡ text.old.items ++ text_of (file_row image.now header.now entry.now)) }
+        ≡ text.old.items ++ row_line (file_row image.now header.now entry.now)) }
     ensures cell { cell.new.room ≡ WIDEST }
 {
     let mut row = ByteRecord::new(alloc);
@@ -155,7 +155,7 @@ fn file_rows(
 
 /// Returns the row of an image without files. The only error is want of memory.
 fn lone_row(alloc: Global, image: &[u8], header: &Header) -> Result<Vec<u8>, AllocError>
-    ensures { IfOk result (λ text. text.items ≡ text_of (empty_row image.now header.now)) }
+    ensures { IfOk result (λ text. text.items ≡ row_line (empty_row image.now header.now)) }
 {
     let mut cell = Page::new(alloc, WIDEST)?;
     cells::label(&mut cell, header);
@@ -178,7 +178,7 @@ fn lone_row(alloc: Global, image: &[u8], header: &Header) -> Result<Vec<u8>, All
 
 /// Returns the row of the names of the columns, with which a text of rows begins.
 pub fn first_csv_row() -> &'static [u8]
-    ensures { result.now ≡ text_of column_names }
+    ensures { result.now ≡ row_line column_names }
 {
     b"image,label,name,type,type_name,start,records,bytes,date,field\n"
 }

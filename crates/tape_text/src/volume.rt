@@ -1,15 +1,16 @@
 //! The first line of a listing: how much of the volume is used and free.
-ghost use Rattle.std.specs.Prelude.{◌≡◌, ◌≤◌, ◌<◌, ◌+◌, ◌-◌, ◌^◌, ◌++◌, if◌then◌else◌, length, map, take};
+ghost use Rattle.std.specs.Prelude.{◌≡◌, ◌≤◌, ◌+◌, ◌-◌, ◌^◌, ◌++◌, if◌then◌else◌, length, map, take};
 ghost use Rattle.lif_model.specs.Directory.{is_purged};
 ghost use Rattle.lif_model.specs.Fit.{redo_place, purged_from};
 ghost use Rattle.lif_dir.specs.Entries.{entry_bytes, slot_bytes};
-ghost use Rattle.tape_text.specs.Listing.{slot_records, records_held, room_of, counted, used_of, free_of, volume_line};
+ghost use Rattle.tape_text.specs.Listing.{slot_records, records_held, room_of};
+ghost use Rattle.tape_text.specs.Listing.{plural_of, used_of, free_of, volume_summary};
 
 use crate::shown::files_of;
 use il_script::Page;
 use lif_dir::{FileEntry, Slot, SlotTable};
 use lif_header::Header;
-use lif_model::REDO_NAME;
+use lif_plan::redo_place;
 
 /// How much of a volume is used and free.
 #[derive(Clone, Copy)]
@@ -22,20 +23,6 @@ pub struct Room {
     pub slots: u32,
     /// The records after the directory that no file has.
     pub records: u32,
-}
-
-/// Returns the place of the first live slot that has the redo file's name, or the number of slots if none has it.
-fn redo_place(slots: &SlotTable) -> usize
-    ensures value { result ≡ redo_place (map slot_bytes slots.now.slots) }
-    ensures within { result ≤ length slots.now.slots }
-    ensures bound { result < 2 ^ 32 }
-{
-    for k in 0..slots.len() {
-        if slots.entry(k).is_live_named(REDO_NAME) {
-            return k;
-        }
-    }
-    slots.len()
 }
 
 /// Returns 1 for a purged file, and 0 for a live one.
@@ -100,11 +87,11 @@ fn room_of(size: u16, header: &Header, slots: &SlotTable) -> Room
 }
 
 /// Appends a number with a noun of at most 6 letters, which ends in `s` if the number is not 1.
-#[tactic(auto, unfolding(crate::specs::Listing::counted))]
+#[tactic(auto, unfolding(crate::specs::Listing::plural_of))]
 fn put_counted(page: &mut Page, number: u32, noun: &[u8])
     requires noun { length noun.now ≤ 6 }
     requires room { length page.old.text + 18 ≤ page.old.room }
-    ensures text { page.new ≡ record page.old { text = page.old.text ++ counted number noun.now } }
+    ensures text { page.new ≡ record page.old { text = page.old.text ++ plural_of number noun.now } }
     ensures size { length page.new.text ≤ length page.old.text + 18 }
 {
     page.put_number(number);
@@ -146,7 +133,7 @@ fn put_free(page: &mut Page, room: Room)
 pub(crate) fn put_volume(page: &mut Page, size: u16, header: &Header, slots: &SlotTable)
     requires room { length page.old.text + 120 ≤ page.old.room }
     ensures text { page.new ≡ record page.old {
-      text = page.old.text ++ volume_line header.now (room_of size header.now slots.now.slots);
+      text = page.old.text ++ volume_summary header.now (room_of size header.now slots.now.slots);
     } }
     ensures size { length page.new.text ≤ length page.old.text + 120 }
 {

@@ -3,44 +3,61 @@ use Rattle.std.proofs.Common.{◌≡◌, [], ◌∷◌, Some, None, true, false,
 use Rattle.clap.proofs.OnLiterals.{clap_on_literals}
 use Rattle.tape_words.specs.declared.jobs.Topic.TheVariants as topic
 use Rattle.tape_words.specs.Simple.{tape_app}
-use Rattle.tape_words.specs.Asked.{Dir, Help, Version, words_in}
+use Rattle.tape_words.specs.Asked.{Dir, Out, Get, Raw, Help, Version, arguments_in}
 
-listing : words_in (codes "dir" ∷ codes "TAPE" ∷ []) ≡ Some (Dir false false (codes "TAPE" ∷ []))
+listing : arguments_in (codes "dir" ∷ codes "TAPE" ∷ []) ≡ Some (Dir false false (codes "TAPE" ∷ []))
 unfolding tape_app clap_on_literals
 listing = refl
 
 -- options may follow an image, and the images keep their order
-listings : words_in (codes "dir" ∷ codes "--csv" ∷ codes "B" ∷ codes "--all" ∷ codes "A" ∷ []) ≡ Some (Dir true true (codes "B" ∷ codes "A" ∷ []))
+listings : arguments_in (codes "dir" ∷ codes "--csv" ∷ codes "B" ∷ codes "--all" ∷ codes "A" ∷ []) ≡ Some (Dir true true (codes "B" ∷ codes "A" ∷ []))
 unfolding tape_app clap_on_literals
 listings = refl
 
 -- after `--` an image may begin with `-`
-after_dashes : words_in (codes "dir" ∷ codes "--" ∷ codes "--csv" ∷ []) ≡ Some (Dir false false (codes "--csv" ∷ []))
+after_dashes : arguments_in (codes "dir" ∷ codes "--" ∷ codes "--csv" ∷ []) ≡ Some (Dir false false (codes "--csv" ∷ []))
 unfolding tape_app clap_on_literals
 after_dashes = refl
 
-helps : (words_in (codes "help" ∷ []) ≡ Some (Help None)) × (words_in (codes "--help" ∷ []) ≡ Some (Help None))
-    × (words_in (codes "help" ∷ codes "dir" ∷ []) ≡ Some (Help (Some topic.Dir)))
-    × (words_in (codes "dir" ∷ codes "--help" ∷ []) ≡ Some (Help (Some topic.Dir)))
+-- the names may be left out, and keep their order
+copies : (arguments_in (codes "out" ∷ codes "TAPE" ∷ codes "files" ∷ []) ≡ Some (Out (codes "TAPE") (codes "files") []))
+    × (arguments_in (codes "out" ∷ codes "TAPE" ∷ codes "files" ∷ codes "B" ∷ codes "A" ∷ []) ≡ Some (Out (codes "TAPE") (codes "files") (codes "B" ∷ codes "A" ∷ [])))
+unfolding tape_app clap_on_literals
+copies = (refl, refl)
+
+one_file : (arguments_in (codes "get" ∷ codes "TAPE" ∷ codes "NOTE" ∷ []) ≡ Some (Get (codes "TAPE") (codes "NOTE")))
+    × (arguments_in (codes "raw" ∷ codes "TAPE" ∷ codes "NOTE" ∷ []) ≡ Some (Raw (codes "TAPE") (codes "NOTE")))
+unfolding tape_app clap_on_literals
+one_file = (refl, refl)
+
+-- one argument where the job needs two, and a second name
+no_files : (arguments_in (codes "out" ∷ codes "TAPE" ∷ []) ≡ None) × (arguments_in (codes "get" ∷ codes "TAPE" ∷ []) ≡ None)
+    × (arguments_in (codes "raw" ∷ codes "TAPE" ∷ []) ≡ None) × (arguments_in (codes "get" ∷ codes "TAPE" ∷ codes "A" ∷ codes "B" ∷ []) ≡ None)
+unfolding tape_app clap_on_literals
+no_files = (refl, refl, refl, refl)
+
+helps : (arguments_in (codes "help" ∷ []) ≡ Some (Help None)) × (arguments_in (codes "--help" ∷ []) ≡ Some (Help None))
+    × (arguments_in (codes "help" ∷ codes "dir" ∷ []) ≡ Some (Help (Some topic.Dir)))
+    × (arguments_in (codes "dir" ∷ codes "--help" ∷ []) ≡ Some (Help (Some topic.Dir)))
 unfolding tape_app clap_on_literals
 helps = (refl, refl, refl, refl)
 
 -- `--help` goes before `--version`, and both before a job
-first_asked : (words_in (codes "--version" ∷ []) ≡ Some Version)
-    × (words_in (codes "--version" ∷ codes "--help" ∷ []) ≡ Some (Help None))
-    × (words_in (codes "--version" ∷ codes "dir" ∷ codes "TAPE" ∷ []) ≡ Some Version)
+first_asked : (arguments_in (codes "--version" ∷ []) ≡ Some Version)
+    × (arguments_in (codes "--version" ∷ codes "--help" ∷ []) ≡ Some (Help None))
+    × (arguments_in (codes "--version" ∷ codes "dir" ∷ codes "TAPE" ∷ []) ≡ Some Version)
 unfolding tape_app clap_on_literals
 first_asked = (refl, refl, refl)
 
 -- no job, no image, a name of no job, and help for one
-no_jobs : (words_in [] ≡ None) × (words_in (codes "dir" ∷ []) ≡ None) × (words_in (codes "list" ∷ []) ≡ None)
-    × (words_in (codes "help" ∷ codes "list" ∷ []) ≡ None)
+no_jobs : (arguments_in [] ≡ None) × (arguments_in (codes "dir" ∷ []) ≡ None) × (arguments_in (codes "list" ∷ []) ≡ None)
+    × (arguments_in (codes "help" ∷ codes "list" ∷ []) ≡ None)
 unfolding tape_app clap_on_literals
 no_jobs = (refl, refl, refl, refl)
 
 -- an option that is unknown, that has a value, or that is given twice
-no_options : (words_in (codes "dir" ∷ codes "--al" ∷ codes "TAPE" ∷ []) ≡ None)
-    × (words_in (codes "dir" ∷ codes "--all=1" ∷ codes "TAPE" ∷ []) ≡ None)
-    × (words_in (codes "dir" ∷ codes "--all" ∷ codes "--all" ∷ codes "TAPE" ∷ []) ≡ None)
+no_options : (arguments_in (codes "dir" ∷ codes "--al" ∷ codes "TAPE" ∷ []) ≡ None)
+    × (arguments_in (codes "dir" ∷ codes "--all=1" ∷ codes "TAPE" ∷ []) ≡ None)
+    × (arguments_in (codes "dir" ∷ codes "--all" ∷ codes "--all" ∷ codes "TAPE" ∷ []) ≡ None)
 unfolding tape_app clap_on_literals
 no_options = (refl, refl, refl)

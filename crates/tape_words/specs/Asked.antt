@@ -1,5 +1,5 @@
 -- What the arguments ask for.
-use Rattle.std.specs.Prelude.{Bool, List, [], ◌∷◌, map, Option, Some, None, codes, option_map, option_and_then, if◌then◌else◌, Result, Ok, Err, String}
+use Rattle.std.specs.Prelude.{Bool, List, [], ◌∷◌, map, Option, Some, None, codes, option_map, option_and_then, unwrap_or, if◌then◌else◌, Result, Ok, Err, String}
 use Rattle.std.specs.declared.alloc.AllocError.{AllocError}
 use Rattle.std.specs.declared.alloc.Global.{Global}
 use Rattle.std.specs.Str.{bytes_eq}
@@ -11,63 +11,84 @@ use Rattle.tape_words.specs.declared.jobs.Topic.{Topic}
 use Rattle.tape_words.specs.declared.jobs.Topic.TheVariants as topic
 use Rattle.tape_words.specs.declared.command.NotRead.{NotRead}
 use Rattle.tape_words.specs.declared.command.NotRead.TheVariants as not_read
-use Rattle.tape_words.specs.Simple.{tape_app, is_set}
+use Rattle.tape_words.specs.Simple.{tape_app, is_switched_on}
 
 -- what is asked for
-pub data Asked : Type 0 where
+pub data Wanted : Type 0 where
   -- a listing of the images: with the redo file, as comma-separated values
-  Dir : (all csv : Bool) (images : List Text) → Asked
+  Dir : (all csv : Bool) (images : List Text) → Wanted
+  -- the files of these names copied from the image into the folder; all files if there is no name
+  Out : (image folder : Text) (names : List Text) → Wanted
+  -- the lines of a text file, printed
+  Get : (image name : Text) → Wanted
+  -- the bytes of a file
+  Raw : (image name : Text) → Wanted
   -- an explanation of one job, or of the program
-  Help : (topic : Option Topic) → Asked
-  Version : Asked
+  Help : (topic : Option Topic) → Wanted
+  Version : Wanted
 
 -- the job of this name
 abbrev pub topic_in : Text → Option Topic
 topic_in name =
     if bytes_eq name (codes "dir") then Some topic.Dir
+    else if bytes_eq name (codes "out") then Some topic.Out
+    else if bytes_eq name (codes "get") then Some topic.Get
+    else if bytes_eq name (codes "raw") then Some topic.Raw
     else if bytes_eq name (codes "help") then Some topic.Help
     else None
 
 -- help for the program, or for the job that is named; a name of no job is refused
-abbrev pub help_in : Option Text → Option Asked
+abbrev pub help_in : Option Text → Option Wanted
 help_in None = Some (Help None)
 help_in (Some name) = option_map (λ t. Help (Some t)) (topic_in name)
 
--- what the job is asked with its own arguments; `dir` without an image is refused
-abbrev pub asked_for : Topic → List Row → Option Asked
+-- two arguments of one value each, if both are given
+abbrev pub pair_in : Text → Text → List Row → Option (Text × Text)
+pair_in first second rows =
+    option_and_then (λ a. option_map (λ b. (a, b)) (first_of second rows)) (first_of first rows)
+
+-- what the job is asked with its own arguments; a job is refused without those that it needs
+abbrev pub asked_for : Topic → List Row → Option Wanted
 asked_for topic.Dir rows =
-    option_map (Dir (is_set (codes "all") rows) (is_set (codes "csv") rows)) (all_of (codes "image") rows)
+    option_map (Dir (is_switched_on (codes "all") rows) (is_switched_on (codes "csv") rows)) (all_of (codes "image") rows)
+asked_for topic.Out rows =
+    option_map (λ p. Out p.0 p.1 (unwrap_or (all_of (codes "names") rows) [])) (pair_in (codes "image") (codes "folder") rows)
+asked_for topic.Get rows = option_map (λ p. Get p.0 p.1) (pair_in (codes "image") (codes "name") rows)
+asked_for topic.Raw rows = option_map (λ p. Raw p.0 p.1) (pair_in (codes "image") (codes "name") rows)
 asked_for topic.Help rows = help_in (first_of (codes "job") rows)
 
 -- the job of this name; its `--help` goes before its other arguments
-abbrev pub asked_as : Text → List Row → Option Asked
+abbrev pub asked_as : Text → List Row → Option Wanted
 asked_as name rows = option_and_then
-    (λ t. if is_set (codes "help") rows then Some (Help (Some t)) else asked_for t rows) (topic_in name)
+    (λ t. if is_switched_on (codes "help") rows then Some (Help (Some t)) else asked_for t rows) (topic_in name)
 
 -- the program's `--help` goes before its `--version`, and that before a job; without any of them nothing is asked
-abbrev pub asked_in : List Row → Option (Text × List Row) → Option Asked
-asked_in rows sub =
-    if is_set (codes "help") rows then Some (Help None)
-    else if is_set (codes "version") rows then Some Version
+abbrev pub job_in : List Row → Option (Text × List Row) → Option Wanted
+job_in rows sub =
+    if is_switched_on (codes "help") rows then Some (Help None)
+    else if is_switched_on (codes "version") rows then Some Version
     else option_and_then (λ s. asked_as s.0 s.1) sub
 
-abbrev pub unless_fault : Kinds → Option Asked → Option Asked
-unless_fault [] asked = asked
-unless_fault (kind ∷ kinds) asked = None
+abbrev pub unless_faulty : Kinds → Option Wanted → Option Wanted
+unless_faulty [] asked = asked
+unless_faulty (kind ∷ kinds) asked = None
 
 -- what the arguments ask for: none if and only if they are refused
-abbrev pub words_in : List Text → Option Asked
-words_in words = unless_fault (fault_of tape_app words) (asked_in (matches_of tape_app words) (subcommand_of tape_app words))
+abbrev pub arguments_in : List Text → Option Wanted
+arguments_in words = unless_faulty (fault_of tape_app words) (job_in (matches_of tape_app words) (subcommand_of tape_app words))
 
 -- what was found asks for
-abbrev pub asked_of : ArgMatches → Option Asked
-asked_of m = asked_in (rows_of (found_of m)) (subcommand_rows_of m)
+abbrev pub job_found_in : ArgMatches → Option Wanted
+job_found_in m = job_in (rows_of (found_of m)) (subcommand_rows_of m)
 
 -- what was read
-abbrev pub asked_by : Job → Asked
-asked_by (job.Dir all csv images) = Dir all csv (map (λ s. s.now) images.now)
-asked_by (job.Help topic) = Help topic
-asked_by job.Version = Version
+abbrev pub job_asked : Job → Wanted
+job_asked (job.Dir all csv images) = Dir all csv (map (λ s. s.now) images.now)
+job_asked (job.Out image folder names) = Out image.now folder.now (map (λ s. s.now) names.now)
+job_asked (job.Get image name) = Get image.now name.now
+job_asked (job.Raw image name) = Raw image.now name.now
+job_asked (job.Help topic) = Help topic
+job_asked job.Version = Version
 
 -- a refusal with this message, if there was memory for it
 abbrev pub told_by : Result (String Global) AllocError → NotRead

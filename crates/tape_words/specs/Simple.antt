@@ -7,8 +7,8 @@ use Rattle.tape_words.specs.declared.jobs.Topic.{Topic}
 use Rattle.tape_words.specs.declared.jobs.Topic.TheVariants as topic
 
 -- an option without a value, named in full
-abbrev pub flag_rule : Text → Rule
-flag_rule id = record (new_rule id) { long = Some id; action = Some SetTrue }
+abbrev pub switch_rule : Text → Rule
+switch_rule id = record (new_rule id) { long = Some id; action = Some SetTrue }
 
 -- at most one argument that is not an option
 abbrev pub one_rule : Text → Rule
@@ -31,14 +31,27 @@ plain_app name = let a : App = new_app name in record a {
 -- `dir [--all] [--csv] [--help] IMAGE..`
 abbrev pub dir_app : App
 dir_app = with_rule (with_rule (with_rule (with_rule (plain_app (codes "dir")) (several_rule (codes "image")))
-    (flag_rule (codes "all"))) (flag_rule (codes "csv"))) (flag_rule (codes "help"))
+    (switch_rule (codes "all"))) (switch_rule (codes "csv"))) (switch_rule (codes "help"))
+
+-- `out [--help] IMAGE FOLDER [NAME..]`
+abbrev pub out_app : App
+out_app = with_rule (with_rule (with_rule (with_rule (plain_app (codes "out")) (one_rule (codes "image")))
+    (one_rule (codes "folder"))) (several_rule (codes "names"))) (switch_rule (codes "help"))
+
+-- a job on one file, as `get [--help] IMAGE NAME`
+abbrev pub file_app : Text → App
+file_app job = with_rule (with_rule (with_rule (plain_app job) (one_rule (codes "image"))) (one_rule (codes "name")))
+    (switch_rule (codes "help"))
 
 -- `help [--help] [JOB]`
 abbrev pub help_app : App
-help_app = with_rule (with_rule (plain_app (codes "help")) (one_rule (codes "job"))) (flag_rule (codes "help"))
+help_app = with_rule (with_rule (plain_app (codes "help")) (one_rule (codes "job"))) (switch_rule (codes "help"))
 
 abbrev pub app_for : Topic → App
 app_for topic.Dir = dir_app
+app_for topic.Out = out_app
+app_for topic.Get = file_app (codes "get")
+app_for topic.Raw = file_app (codes "raw")
 app_for topic.Help = help_app
 
 -- the command of the program, whose arguments do not begin with its name
@@ -46,11 +59,12 @@ abbrev pub top_app : App
 top_app = let a : App = plain_app (codes "tape") in record a { top = record (a.top) { no_binary_name = true } }
 
 -- the command without its jobs: two options of its own
-abbrev pub bare_app : App
-bare_app = with_rule (with_rule top_app (flag_rule (codes "help"))) (flag_rule (codes "version"))
+abbrev pub program_app : App
+program_app = with_rule (with_rule top_app (switch_rule (codes "help"))) (switch_rule (codes "version"))
 
 unfoldable pub tape_app : App
-tape_app = with_subcommand (with_subcommand bare_app dir_app.top) help_app.top
+tape_app = with_subcommand (with_subcommand (with_subcommand (with_subcommand (with_subcommand program_app
+    (app_for topic.Dir).top) (app_for topic.Out).top) (app_for topic.Get).top) (app_for topic.Raw).top) (app_for topic.Help).top
 
 -- what a page of help explains: one job, or the program
 abbrev pub page_app : Option Topic → App
@@ -58,10 +72,10 @@ page_app (Some topic) = app_for topic
 page_app None = tape_app
 
 -- an option without a value has the text `true` if it is given
-abbrev pub is_true : Option Text → Bool
-is_true None = false
-is_true (Some text) = bytes_eq text (codes "true")
+abbrev pub is_yes : Option Text → Bool
+is_yes None = false
+is_yes (Some text) = bytes_eq text (codes "true")
 
 -- whether an option without a value is given
-abbrev pub is_set : Text → List Row → Bool
-is_set id rows = is_true (first_of id rows)
+abbrev pub is_switched_on : Text → List Row → Bool
+is_switched_on id rows = is_yes (first_of id rows)

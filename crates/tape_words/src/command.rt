@@ -1,9 +1,10 @@
-ghost use Rattle.std.specs.Prelude.{◌≡◌, ◌≢◌, IfOk, IfErr, None, map, option_map};
+ghost use Rattle.std.specs.Prelude.{◌≡◌, ◌≢◌, IfOk, IfErr, None, [], map, option_map, unwrap_or};
 ghost use Rattle.std.specs.String.{string_bytes};
 ghost use Rattle.clap.specs.Words.{found_of, rows_of, first_of, all_of, subcommand_rows_of};
 ghost use Rattle.clap.specs.declared.error.kind.ErrorKind.TheVariants as kinds;
-ghost use Rattle.tape_words.specs.Simple.{is_set};
-ghost use Rattle.tape_words.specs.Asked.{IfRefused, asked_as, asked_by, asked_for, asked_of, help_in, told_by, words_in};
+ghost use Rattle.tape_words.specs.Simple.{is_switched_on};
+ghost use Rattle.tape_words.specs.Asked.{IfRefused, arguments_in, job_asked, job_found_in, told_by};
+ghost use Rattle.tape_words.specs.Asked.{asked_as, asked_for, help_in, pair_in};
 
 use crate::jobs::{Job, Topic, topic_of};
 use crate::rules::command;
@@ -22,8 +23,8 @@ pub enum NotRead {
 
 /// Reads the arguments after the program's name. `Refused` is returned only if they ask for no job.
 pub fn parse<'a>(alloc: Global, words: &'a [String]) -> Result<ArgMatches<'a>, NotRead>
-    ensures read { IfOk result (λ m. words_in (map string_bytes words.entry.now) ≡ asked_of m) }
-    ensures refused { IfErr result (IfRefused (words_in (map string_bytes words.entry.now) ≡ None)) }
+    ensures read { IfOk result (λ m. arguments_in (map string_bytes words.entry.now) ≡ job_found_in m) }
+    ensures refused { IfErr result (IfRefused (arguments_in (map string_bytes words.entry.now) ≡ None)) }
 {
     let Ok(command) = command(alloc) else {
         return Err(NotRead::OutOfMemory);
@@ -66,14 +67,15 @@ pub(crate) fn value<'a>(matches: &ArgMatches<'a>, id: &str) -> Option<&'a str>
 
 /// All values of an argument, if it is given.
 fn values<'r, 'a>(matches: &'r ArgMatches<'a>, id: &str) -> Option<&'r [&'a str]>
-    ensures { option_map (λ texts. map (λ text. text.now) texts.now) result ≡ all_of id.now (rows_of (found_of matches.now)) }
+    ensures { option_map (λ texts. map (λ text. text.now) texts.now) result
+        ≡ all_of id.now (rows_of (found_of matches.now)) }
 {
     matches.get_strs(id)
 }
 
 /// Whether an option without a value is given.
-fn is_set(matches: &ArgMatches<'_>, id: &str) -> bool
-    ensures { result ≡ is_set id.now (rows_of (found_of matches.now)) }
+fn is_switched_on(matches: &ArgMatches<'_>, id: &str) -> bool
+    ensures { result ≡ is_switched_on id.now (rows_of (found_of matches.now)) }
 {
     match value(matches, id) {
         Some(text) => text == "true",
@@ -81,9 +83,26 @@ fn is_set(matches: &ArgMatches<'_>, id: &str) -> bool
     }
 }
 
+/// All values of an argument, none if it is not given.
+fn any_values<'r, 'a>(matches: &'r ArgMatches<'a>, id: &str) -> &'r [&'r str]
+    ensures { map (λ text. text.now) result.now ≡ unwrap_or (all_of id.now (rows_of (found_of matches.now))) [] }
+{
+    values(matches, id).unwrap_or(&[])
+}
+
+/// The values of two arguments, if both are given.
+fn pair<'a>(matches: &ArgMatches<'a>, first: &str, second: &str) -> Option<(&'a str, &'a str)>
+    ensures { option_map (λ p. (p.0.now, p.1.now)) result
+        ≡ pair_in first.now second.now (rows_of (found_of matches.now)) }
+{
+    let first = value(matches, first)?;
+    let second = value(matches, second)?;
+    Some((first, second))
+}
+
 /// Help for the program, or for the job that is named.
 fn help_for<'r>(name: Option<&str>) -> Option<Job<'r>>
-    ensures { option_map asked_by result ≡ help_in (option_map (λ text. text.now) name.entry) }
+    ensures { option_map job_asked result ≡ help_in (option_map (λ text. text.now) name.entry) }
 {
     let topic = match name {
         Some(name) => Some(topic_of(name)?),
@@ -94,16 +113,33 @@ fn help_for<'r>(name: Option<&str>) -> Option<Job<'r>>
 
 /// The job, with the arguments that were found for it.
 fn job_for<'r, 'a>(topic: Topic, found: &'r ArgMatches<'a>) -> Option<Job<'r>>
-    ensures { option_map asked_by result ≡ asked_for topic (rows_of (found_of found.now)) }
+    ensures { option_map job_asked result ≡ asked_for topic (rows_of (found_of found.now)) }
 {
     match topic {
         Topic::Dir => {
             let images = values(found, "image")?;
             Some(Job::Dir {
-                all: is_set(found, "all"),
-                csv: is_set(found, "csv"),
+                all: is_switched_on(found, "all"),
+                csv: is_switched_on(found, "csv"),
                 images,
             })
+        }
+        Topic::Out => {
+            let (image, folder) = pair(found, "image", "folder")?;
+            let names = any_values(found, "names");
+            Some(Job::Out {
+                image,
+                folder,
+                names,
+            })
+        }
+        Topic::Get => {
+            let (image, name) = pair(found, "image", "name")?;
+            Some(Job::Get { image, name })
+        }
+        Topic::Raw => {
+            let (image, name) = pair(found, "image", "name")?;
+            Some(Job::Raw { image, name })
         }
         Topic::Help => help_for(value(found, "job")),
     }
@@ -111,10 +147,10 @@ fn job_for<'r, 'a>(topic: Topic, found: &'r ArgMatches<'a>) -> Option<Job<'r>>
 
 /// The job of this name, or the help for it.
 fn job_as<'r, 'a>(name: &str, found: &'r ArgMatches<'a>) -> Option<Job<'r>>
-    ensures { option_map asked_by result ≡ asked_as name.now (rows_of (found_of found.now)) }
+    ensures { option_map job_asked result ≡ asked_as name.now (rows_of (found_of found.now)) }
 {
     let topic = topic_of(name)?;
-    if is_set(found, "help") {
+    if is_switched_on(found, "help") {
         return Some(Job::Help { topic: Some(topic) });
     }
     job_for(topic, found)
@@ -122,12 +158,12 @@ fn job_as<'r, 'a>(name: &str, found: &'r ArgMatches<'a>) -> Option<Job<'r>>
 
 /// The job that the arguments ask for. If there is none, [`crate::missing`] says why.
 pub fn job_of<'r, 'a>(matches: &'r ArgMatches<'a>) -> Option<Job<'r>>
-    ensures { option_map asked_by result ≡ asked_of matches.now }
+    ensures { option_map job_asked result ≡ job_found_in matches.now }
 {
-    if is_set(matches, "help") {
+    if is_switched_on(matches, "help") {
         return Some(Job::Help { topic: None });
     }
-    if is_set(matches, "version") {
+    if is_switched_on(matches, "version") {
         return Some(Job::Version);
     }
     let (name, found) = matches.subcommand()?;

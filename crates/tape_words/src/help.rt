@@ -13,20 +13,32 @@ pub fn help_text(alloc: Global, topic: Option<Topic>) -> Result<String, AllocErr
     command.render_help()
 }
 
-/// Why arguments that the rules take ask for no job: what the program writes before it refuses them. If no job is named,
-/// that is the help of the program.
+/// Why arguments that the rules take ask for no job: what the program writes before it refuses them. If no job is
+/// named, that is the help of the program.
 pub fn missing(alloc: Global, matches: &ArgMatches<'_>) -> Result<String, AllocError> {
     let Some((name, found)) = matches.subcommand() else {
         return help_text(alloc, None);
     };
-    match (topic_of(name), value(found, "job")) {
-        (Some(Topic::Help), Some(job)) => {
+    let Some(topic) = topic_of(name) else {
+        return help_text(alloc, None);
+    };
+    let needed = needs(topic);
+    match value(found, "job") {
+        Some(job) => {
             format!(in alloc; "tape: there is no job '{job}'; 'tape help' lists the jobs\n")
         }
-        _ => {
-            format!(in alloc;
-                "tape: {name} needs at least one IMAGE; 'tape help {name}' explains it\n"
-            )
+        None => {
+            format!(in alloc; "tape: {name} needs {needed}; 'tape help {name}' explains it\n")
         }
+    }
+}
+
+/// The arguments without which a job is refused.
+fn needs(topic: Topic) -> &'static str {
+    match topic {
+        Topic::Dir => "at least one IMAGE",
+        Topic::Out => "IMAGE and FOLDER",
+        Topic::Get | Topic::Raw => "IMAGE and NAME",
+        Topic::Help => "no argument",
     }
 }

@@ -6,6 +6,12 @@ ghost use Rattle.tape_words.specs.Asked.{topic_in};
 pub enum Topic {
     /// `tape dir`.
     Dir,
+    /// `tape out`.
+    Out,
+    /// `tape get`.
+    Get,
+    /// `tape raw`.
+    Raw,
     /// `tape help`.
     Help,
 }
@@ -22,6 +28,29 @@ pub enum Job<'a> {
         /// The names of the images, at least one, in the order of the arguments.
         images: &'a [&'a str],
     },
+    /// Copies files from an image into a folder.
+    Out {
+        /// The name of the image.
+        image: &'a str,
+        /// The name of the folder.
+        folder: &'a str,
+        /// The names of the files, in the order of the arguments. If there is none, all files are copied.
+        names: &'a [&'a str],
+    },
+    /// Prints the lines of a text file.
+    Get {
+        /// The name of the image.
+        image: &'a str,
+        /// The name of the file.
+        name: &'a str,
+    },
+    /// Writes the bytes of a file, as many as its directory entry tells.
+    Raw {
+        /// The name of the image.
+        image: &'a str,
+        /// The name of the file.
+        name: &'a str,
+    },
     /// Explains one job, or the whole program if there is no topic.
     Help {
         /// The job that is explained.
@@ -37,6 +66,15 @@ pub(crate) fn topic_of(name: &str) -> Option<Topic>
 {
     if name == "dir" {
         return Some(Topic::Dir);
+    }
+    if name == "out" {
+        return Some(Topic::Out);
+    }
+    if name == "get" {
+        return Some(Topic::Get);
+    }
+    if name == "raw" {
+        return Some(Topic::Raw);
     }
     if name == "help" {
         return Some(Topic::Help);

@@ -1,7 +1,8 @@
 //! The arguments of `tape`: which job they ask for, and when they are refused.
 //!
-//! The program takes `tape dir [--all] [--csv] IMAGE...`, `tape help [JOB]`, `tape --help` and `tape --version`; each
-//! job takes `--help` too. [`parse`] reads the arguments, and [`job_of`] gives the job that they ask for.
+//! The program takes `tape dir [--all] [--csv] IMAGE...`, `tape out IMAGE FOLDER [NAME...]`, `tape get IMAGE NAME`,
+//! `tape raw IMAGE NAME`, `tape help [JOB]`, `tape --help` and `tape --version`; each job takes `--help` too. [`parse`]
+//! reads the arguments, and [`job_of`] gives the job that they ask for.
 #![tactic(auto)]
 
 mod command;

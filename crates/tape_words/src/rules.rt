@@ -1,15 +1,23 @@
 ghost use Rattle.std.specs.Prelude.{◌≡◌, IfOk, false};
 ghost use Rattle.clap.specs.Words.{app_of, rule_of};
 ghost use Rattle.clap.specs.declared.builder.command.Command.TheViews.{out-Command};
-ghost use Rattle.tape_words.specs.Simple.{flag_rule, one_rule, several_rule, plain_app, dir_app, help_app, app_for, top_app, bare_app, tape_app, page_app};
+ghost use Rattle.tape_words.specs.Simple.{switch_rule, one_rule, several_rule};
+ghost use Rattle.tape_words.specs.Simple.{plain_app, dir_app, out_app, file_app, help_app, app_for};
+ghost use Rattle.tape_words.specs.Simple.{top_app, program_app, tape_app, page_app};
 
 use crate::jobs::Topic;
 use clap::{Arg, ArgAction, Command};
 use std::alloc::{AllocError, Global};
 
+/// What a page of help says of IMAGE, for a job on one image.
+const IMAGE_HELP: &str = "The image file";
+
+/// What a page of help says of NAME.
+const NAME_HELP: &str = "The name of a file; %HH is the byte HH hex";
+
 /// An option without a value.
 fn flag<'a>(alloc: Global, id: &'a str, help: &'a str) -> Arg<'a>
-    ensures rule { rule_of result ≡ flag_rule id.entry.now }
+    ensures rule { rule_of result ≡ switch_rule id.entry.now }
     ensures local { result.global ≡ false }
 {
     Arg::new(alloc, id)
@@ -75,6 +83,45 @@ fn dir<'a>(alloc: Global) -> Result<Command<'a>, AllocError>
     Ok(command)
 }
 
+fn out<'a>(alloc: Global) -> Result<Command<'a>, AllocError>
+    ensures app { IfOk result (λ c. app_of c ≡ out_app) }
+    ensures local { IfOk result (λ c. (out-Command c).has_globals ≡ false) }
+{
+    let command = plain(
+        alloc,
+        "out",
+        "Copies files from IMAGE into FOLDER",
+        "tape out IMAGE FOLDER [NAME...]",
+    )
+    .arg(one(alloc, "image", "IMAGE", IMAGE_HELP))?
+    .arg(one(
+        alloc,
+        "folder",
+        "FOLDER",
+        "The folder that the files are copied into",
+    ))?
+    .arg(several(alloc, "names", "NAME", NAME_HELP))?
+    .arg(flag(alloc, "help", "Print this page"))?;
+    Ok(command)
+}
+
+/// The command of a job on one file.
+fn file<'a>(
+    alloc: Global,
+    job: &'a str,
+    about: &'a str,
+    usage: &'a str,
+) -> Result<Command<'a>, AllocError>
+    ensures app { IfOk result (λ c. app_of c ≡ file_app job.entry.now) }
+    ensures local { IfOk result (λ c. (out-Command c).has_globals ≡ false) }
+{
+    let command = plain(alloc, job, about, usage)
+        .arg(one(alloc, "image", "IMAGE", IMAGE_HELP))?
+        .arg(one(alloc, "name", "NAME", NAME_HELP))?
+        .arg(flag(alloc, "help", "Print this page"))?;
+    Ok(command)
+}
+
 fn help<'a>(alloc: Global) -> Result<Command<'a>, AllocError>
     ensures app { IfOk result (λ c. app_of c ≡ help_app) }
     ensures local { IfOk result (λ c. (out-Command c).has_globals ≡ false) }
@@ -97,6 +144,19 @@ pub(crate) fn job_command<'a>(alloc: Global, topic: Topic) -> Result<Command<'a>
 {
     match topic {
         Topic::Dir => dir(alloc),
+        Topic::Out => out(alloc),
+        Topic::Get => file(
+            alloc,
+            "get",
+            "Prints the lines of a text file",
+            "tape get IMAGE NAME",
+        ),
+        Topic::Raw => file(
+            alloc,
+            "raw",
+            "Writes the bytes of a file, as many as its directory entry tells",
+            "tape raw IMAGE NAME",
+        ),
         Topic::Help => help(alloc),
     }
 }
@@ -118,7 +178,7 @@ fn top<'a>(alloc: Global) -> Command<'a>
 
 /// The command without its jobs.
 fn bare<'a>(alloc: Global) -> Result<Command<'a>, AllocError>
-    ensures { IfOk result (λ c. app_of c ≡ bare_app) }
+    ensures { IfOk result (λ c. app_of c ≡ program_app) }
 {
     let command = top(alloc)
         .arg(flag(alloc, "help", "Print this page"))?
@@ -132,6 +192,9 @@ pub(crate) fn command<'a>(alloc: Global) -> Result<Command<'a>, AllocError>
 {
     let command = bare(alloc)?
         .subcommand(job_command(alloc, Topic::Dir)?)?
+        .subcommand(job_command(alloc, Topic::Out)?)?
+        .subcommand(job_command(alloc, Topic::Get)?)?
+        .subcommand(job_command(alloc, Topic::Raw)?)?
         .subcommand(job_command(alloc, Topic::Help)?)?;
     Ok(command)
 }

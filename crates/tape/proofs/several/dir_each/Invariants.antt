@@ -1,4 +1,4 @@
-use Rattle.std.proofs.Common.{take, map, length}
+use Rattle.std.proofs.Common.{take, map}
 use Rattle.tape.specs.Several.{written}
 use Rattle.tape.proofs.Chains.{ListedSoFar}
 use Rattle.tape.proofs.several.dir_each.Given as goal

@@ -2,14 +2,14 @@ use Rattle.std.proofs.Common.{◌≡◌, ◌≤◌, ◌+◌, ◌*◌, ◌++◌, 
 use Rattle.std.specs.List.{flat_map}
 use Rattle.tape_text.specs.declared.cells.TheConstants.{WIDEST}
 use Rattle.tape_text.specs.declared.lines.TheConstants.{LINE}
-use Rattle.tape_text.specs.Listing.{file_line, shown_files, volume_line, room_of, widths_of}
+use Rattle.tape_text.specs.Listing.{listed_line, shown_files, volume_summary, room_of, widths_of}
 use Rattle.tape_text.specs.Columns.{AreNarrow}
 use Rattle.tape_text.proofs.lines.put_listing.Given as goal
 
 abbrev pub invariant-slots : goal.invariant-slots
 invariant-slots l = record {
-  text : l.page.text ≡ l.fn.page.text ++ (volume_line l.header (room_of l.size l.header l.slots.slots)
-      ++ flat_map (file_line (widths_of (shown_files l.all l.size l.slots.slots))) (shown_files l.all l.size (take l.place l.slots.slots)));
+  text : l.page.text ≡ l.fn.page.text ++ (volume_summary l.header (room_of l.size l.header l.slots.slots)
+      ++ flat_map (listed_line (widths_of (shown_files l.all l.size l.slots.slots))) (shown_files l.all l.size (take l.place l.slots.slots)));
   size : length l.page.text ≤ length l.fn.page.text + LINE * (l.place + 1);
   room : l.page.room ≡ l.fn.page.room;
   cell : l.cell.room ≡ WIDEST;

@@ -8,4 +8,7 @@ unfolding tape_app
 returns c =
     let top = λ (a : App). a.top in
     let one = c.in_ok-subcommand.ensures.shape c.in_ok-job_command.ensures.local ∙ ap₂ with_subcommand c.in_ok-bare.ensures (ap top c.in_ok-job_command.ensures.app) in
-    c.in_ok-command.ensures.shape c.in_ok-job_command-2.ensures.local ∙ ap₂ with_subcommand one (ap top c.in_ok-job_command-2.ensures.app)
+    let two = c.in_ok-subcommand-2.ensures.shape c.in_ok-job_command-2.ensures.local ∙ ap₂ with_subcommand one (ap top c.in_ok-job_command-2.ensures.app) in
+    let three = c.in_ok-subcommand-3.ensures.shape c.in_ok-job_command-3.ensures.local ∙ ap₂ with_subcommand two (ap top c.in_ok-job_command-3.ensures.app) in
+    let four = c.in_ok-subcommand-4.ensures.shape c.in_ok-job_command-4.ensures.local ∙ ap₂ with_subcommand three (ap top c.in_ok-job_command-4.ensures.app) in
+    c.in_ok-command.ensures.shape c.in_ok-job_command-5.ensures.local ∙ ap₂ with_subcommand four (ap top c.in_ok-job_command-5.ensures.app)

@@ -1,12 +1,10 @@
-use Rattle.std.proofs.Common.{◌∙◌, take, sym, ap, arith}
-use Rattle.std.specs.Prelude.{length, min}
-use Rattle.std.proofs.lemmas.List.{take_min, with_items_is}
-use Rattle.lif_dir.specs.Entries.{name_bytes}
+use Rattle.std.proofs.Common.{◌∙◌, sym, ap, arith}
+use Rattle.std.specs.Prelude.{length}
 use Rattle.il_script.specs.Sheet.{Sheet}
 use Rattle.il_host.specs.Hosts.{volume_in}
-use Rattle.il_host.specs.Texts.{data_text, label_text, listing_text}
+use Rattle.il_host.specs.Texts.{label_text, listing_text}
 use Rattle.il_host.proofs.HostChanges.{altered}
-use Rattle.il_host.proofs.HostReads.{fetched, labelled, listed, not_fetched, not_labelled, not_listed, same_room}
+use Rattle.il_host.proofs.HostReads.{labelled, listed, not_labelled, not_listed}
 use Rattle.il_host.proofs.HostVolumes.{changes_volume, ends_blank, ends_told, on_volume, volume_request}
 use Rattle.il_host.proofs.Prepared.{memory_to_pack, prepared, ready_prepared, room_to_prepare, size_prepared, unprepared}
 use Rattle.il_host.proofs.Texts.{dir_told, listing_fits}
@@ -30,15 +28,12 @@ dir-requires-clause-ready g c = ready_prepared _ _ c.args.self.now.volume c.begi
 pub label-requires-clause-ready : goal.label-requires-clause-ready
 label-requires-clause-ready g c = ready_prepared _ _ c.args.self.now.volume c.begin.new.self c.prepare.new.self.volume _ _ c.requires.valid c.begin.ensures.begun g.met.M.Medium.is_medium (prepared _ _ c.args.self.now.volume c.begin.new.self c.prepare.new.self.volume _ _ c.requires.valid c.begin.ensures.begun g.met.M.Medium.is_medium c.in_default.field-0 c.begin.ensures.kept c.in_default.ensures.prepares)
 
-pub fetch-requires-clause-ready : goal.fetch-requires-clause-ready
-fetch-requires-clause-ready g c = ready_prepared _ _ c.args.self.now.volume c.begin.new.self c.prepare.new.self.volume _ _ c.requires.valid c.begin.ensures.begun g.met.M.Medium.is_medium (prepared _ _ c.args.self.now.volume c.begin.new.self c.prepare.new.self.volume _ _ c.requires.valid c.begin.ensures.begun g.met.M.Medium.is_medium c.in_default.field-0 c.begin.ensures.kept c.in_default.ensures.prepares)
-
 pub alter-answer-requires : goal.alter-answer-requires
 alter-answer-requires g c = record {
   «open» = c.in_default.ensures.opens;
   ready = ready_prepared _ _ c.args.self.now.volume c.begin.new.self c.prepare.new.self.volume _ _ c.requires.valid c.begin.ensures.begun g.met.M.Medium.is_medium (prepared _ _ c.args.self.now.volume c.begin.new.self c.prepare.new.self.volume _ _ c.requires.valid c.begin.ensures.begun g.met.M.Medium.is_medium c.in_default.field-0 c.begin.ensures.kept c.in_default.ensures.prepares);
   plain = c.requires.plain;
-  changes = changes_volume c.args.command.now c.requires.volume c.in_default-command.not-Dir c.in_default-command.not-Label c.in_default-command.not-Fetch;
+  changes = changes_volume c.args.command.now c.requires.volume c.in_default-command.not-Dir c.in_default-command.not-Label;
 }
 
 pub put_listing-requires : goal.put_listing-requires
@@ -89,28 +84,10 @@ returns-in-Err-label g c =
     (not_labelled _ _ c.args.self.now.volume c.begin.new.self c.prepare.new.self.volume c.label.new.self _ _ c.requires.valid c.begin.ensures.begun g.met.M.Medium.is_medium (prepared _ _ c.args.self.now.volume c.begin.new.self c.prepare.new.self.volume _ _ c.requires.valid c.begin.ensures.begun g.met.M.Medium.is_medium c.in_default.field-0 c.begin.ensures.kept c.in_default.ensures.prepares)
     c.in_default.ensures.opens c.label.ensures.open c.refused-in-Err-label.ensures.drive c.in-Err-label.fault _ c.in-Err-label.ensures.did))
 
-pub returns-in-Ok-fetch : goal.returns-in-Ok-fetch
-returns-in-Ok-fetch g c =
-    let into = c.fetch.new.into in
-    let long = c.fetch.auto.into ∙ c.deref_mut.ensures.len in
-    let count = c.min-count.ensures ∙ ap (λ k. min c.in-Ok-fetch.fetched.length k) (c.len.ensures ∙ sym long) in
-    let shown = ap (take c.min-count.result) (c.deref.ensures.value ∙ with_items_is c.fill.new.self.bytes into long) ∙ ap (λ k. take k into) count ∙ take_min c.in-Ok-fetch.fetched.length into in
-    rw c.in-Fetch.is (
-    ends_told (data_text c.in-Ok-fetch.fetched.kind c.in-Ok-fetch.fetched.implementation (take c.min-count.result c.deref.result.now)) (record { page = c.prepare.ensures.rests.page; room = same_room c.prepare.new.self.packer c.fill.ensures.room ∙ c.prepare.ensures.rests.room }) c.requires.blank c.put_data.ensures.text c.answered-in-Ok-fetch.ensures.ended
-    (fetched _ _ c.args.self.now.volume c.begin.new.self c.prepare.new.self.volume c.fetch.new.self _ _ c.requires.valid c.begin.ensures.begun g.met.M.Medium.is_medium (prepared _ _ c.args.self.now.volume c.begin.new.self c.prepare.new.self.volume _ _ c.requires.valid c.begin.ensures.begun g.met.M.Medium.is_medium c.in_default.field-0 c.begin.ensures.kept c.in_default.ensures.prepares)
-    c.in_default.ensures.opens c.fetch.ensures.open c.answered-in-Ok-fetch.ensures.drive (name_bytes c.in-Fetch.name) c.in-Ok-fetch.fetched into _ _ shown c.in-Ok-fetch.ensures.did c.in-Ok-fetch.ensures.fetched c.in-Ok-fetch.ensures.run))
-
-pub returns-in-Err-fetch : goal.returns-in-Err-fetch
-returns-in-Err-fetch g c =
-    rw c.in-Fetch.is (
-    ends_blank (record { page = c.prepare.ensures.rests.page; room = same_room c.prepare.new.self.packer c.fill.ensures.room ∙ c.prepare.ensures.rests.room }) c.requires.blank c.refused-in-Err-fetch.ensures.ended
-    (not_fetched _ _ c.args.self.now.volume c.begin.new.self c.prepare.new.self.volume c.fetch.new.self _ _ c.requires.valid c.begin.ensures.begun g.met.M.Medium.is_medium (prepared _ _ c.args.self.now.volume c.begin.new.self c.prepare.new.self.volume _ _ c.requires.valid c.begin.ensures.begun g.met.M.Medium.is_medium c.in_default.field-0 c.begin.ensures.kept c.in_default.ensures.prepares)
-    c.in_default.ensures.opens c.fetch.ensures.open c.refused-in-Err-fetch.ensures.drive (name_bytes c.in-Fetch.name) c.in-Err-fetch.fault _ c.in-Err-fetch.ensures.did))
-
 pub returns-in_default-command : goal.returns-in_default-command
 returns-in_default-command g c =
     let did = on_volume _ c.args.command.now c.args.bytes.now
-    (changes_volume c.args.command.now c.requires.volume c.in_default-command.not-Dir c.in_default-command.not-Label c.in_default-command.not-Fetch) c.alter-answer.ensures.did in
+    (changes_volume c.args.command.now c.requires.volume c.in_default-command.not-Dir c.in_default-command.not-Label) c.alter-answer.ensures.did in
     rw did.1 (ends_blank c.prepare.ensures.rests c.requires.blank c.ended.ensures.ended
     (altered _ _ c.args.self.now.volume c.begin.new.self c.prepare.new.self.volume c.alter-answer.new.volume _ _ c.requires.valid c.begin.ensures.begun g.met.M.Medium.is_medium (prepared _ _ c.args.self.now.volume c.begin.new.self c.prepare.new.self.volume _ _ c.requires.valid c.begin.ensures.begun g.met.M.Medium.is_medium c.in_default.field-0 c.begin.ensures.kept c.in_default.ensures.prepares)
     c.in_default.ensures.opens c.alter-answer.ensures.open c.ended.ensures.drive did.0 _ _ did.2 (did.3 _) did.4))

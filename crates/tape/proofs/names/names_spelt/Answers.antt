@@ -1,0 +1,24 @@
+use Rattle.std.proofs.Common.{◌≡◌, ◌++◌, ◌∷◌, ◌∙◌, ◌+◌, List, [], ap, arith, rules, drop, map, length, length-append}
+use Rattle.lif_dir.specs.declared.entries.Name.{Name}
+use Rattle.tape.specs.Names.{names_spelt}
+use Rattle.tape_jobs.proofs.Copies.{pushed}
+use Rattle.tape.proofs.Spelt.{names_more, no_names, with_names}
+use Rattle.tape.proofs.names.names_spelt.Goals as goal
+
+pub returns-in-None-clause-refused : goal.returns-in-None-clause-refused
+returns-in-None-clause-refused c =
+    no_names c.args.texts.now c.texts.text-index _ c.texts-test.true c.texts.names.items c.name_spelt.result c.name_spelt.ensures c.in-None.is c.texts.invariant.read
+
+pub texts-preserved : goal.texts-preserved
+texts-preserved c =
+    let held = c.texts.invariant in
+    let count = held.room in
+    let more : c.push.new.self.items ≡ c.texts.names.items ++ c.in-Some.name ∷ [] = pushed _ _ _ _ _ _ c.push.ensures.full (omega (arith, count, c.texts-test.true, held.space)) c.push.ensures.items in
+    let long = ap length more in
+    let both = length-append c.texts.names.items (c.in-Some.name ∷ []) in
+    record {
+      read = ap (λ (names : List Name). with_names names (names_spelt (drop (c.texts.text-index + 1) (map (λ text. text.now) c.args.texts.now)))) more
+          ∙ names_more c.args.texts.now c.texts.text-index _ c.texts-test.true c.texts.names.items c.in-Some.name c.name_spelt.result c.name_spelt.ensures c.in-Some.is held.read;
+      room = omega (arith, long, both, count);
+      space = search rules;
+    }

@@ -1,0 +1,113 @@
+ghost use Rattle.std.specs.Prelude.{◌≡◌, [], IfOk, None, map};
+ghost use Rattle.tape.specs.Copies.{CopiesFiles, FilesAreCopied};
+ghost use Rattle.tape.specs.Several.{written};
+
+use crate::copy_messages::write_copied;
+use crate::images::{Returned, work_on_image};
+use crate::messages::{no_memory, refuse_name};
+use crate::names::{NoNames, names_spelt};
+use crate::several::Drives;
+use exits::BAD_WORDS;
+use il_ports::{Medium, Sink};
+use il_script::Page;
+use lif_dir::Name;
+use std::alloc::{AllocError, Global};
+use tape_folder::Folder;
+use tape_jobs::Copying;
+use tape_names::HOST_NAME_LENGTH;
+
+/// Where folders come from.
+pub trait Folders<F: Folder> {
+    ghost use Rattle.std.specs.Prelude.{◌≡◌, IfOk, None};
+
+    /// The folder of that path. It takes all its memory here.
+    fn folder(&mut self, alloc: Global, path: &str) -> Result<F, AllocError>
+        ensures { IfOk result (λ folder. (F.view folder).part ≡ None) };
+}
+
+/// What the job takes before it opens the image: the folder, a page for the name that a file has there, and one for
+/// the printed name of a file in a message.
+#[derive(Drop)]
+struct Kit<F: Drop> {
+    folder: F,
+    page: Page,
+    line: Page,
+}
+
+/// The folder of that path, and the pages.
+fn take_kit<F: Folder + Drop, G: Folders<F>>(
+    alloc: Global,
+    folders: &mut G,
+    path: &str,
+) -> Result<Kit<F>, AllocError>
+    ensures { IfOk result (λ kit. ((F.view kit.folder).part ≡ None)
+        × (kit.page ≡ record { text = []; room = HOST_NAME_LENGTH })
+        × (kit.line ≡ record { text = []; room = HOST_NAME_LENGTH })) }
+{
+    Ok(Kit {
+        folder: folders.folder(alloc, path)?,
+        page: Page::new(alloc, HOST_NAME_LENGTH)?,
+        line: Page::new(alloc, HOST_NAME_LENGTH)?,
+    })
+}
+
+/// Copies the files of these names, or all files if there is no name, into a folder, and says the exit status.
+fn copy_named<M: Medium + Drop, F: Folder + Drop, E: Sink>(
+    alloc: Global,
+    drive: M,
+    kit: Kit<F>,
+    image: &str,
+    path: &str,
+    names: &[Name],
+    error: &mut E,
+) -> u8
+    requires empty { (M.view drive).record_count ≡ 0 }
+    requires closed { (F.view kit.folder).part ≡ None }
+    requires page { kit.page ≡ record { text = []; room = HOST_NAME_LENGTH } }
+    requires line { kit.line ≡ record { text = []; room = HOST_NAME_LENGTH } }
+    ensures { FilesAreCopied M.view F.view image.now path.now names.now result
+        (E.written error.old) (E.written error.new) (E.faults error.old) (E.faults error.new) }
+{
+    let Kit {
+        folder,
+        page,
+        mut line,
+    } = kit;
+    let job = Copying {
+        names,
+        folder,
+        page,
+        ends: Vec::new(alloc),
+    };
+    let (ending, returned) = work_on_image(alloc, drive, image, job);
+    let Returned { job, .. } = returned;
+    write_copied(error, image, path, ending, &job.ends, &mut line);
+    ending.status()
+}
+
+/// Does the job `out`, and says the exit status.
+pub fn copy_files<M: Medium + Drop, D: Drives<M>, F: Folder + Drop, G: Folders<F>, E: Sink>(
+    alloc: Global,
+    drives: &mut D,
+    folders: &mut G,
+    image: &str,
+    path: &str,
+    texts: &[&str],
+    error: &mut E,
+) -> u8
+    ensures { CopiesFiles M.view F.view image.now path.now (map (λ text. text.now) texts.now) result
+        (E.written error.old) (E.written error.new) (E.faults error.old) (E.faults error.new) }
+{
+    let names = match names_spelt(alloc, texts) {
+        Ok(names) => names,
+        Err(NoNames::NoName(text)) => {
+            refuse_name(error, text);
+            return BAD_WORDS;
+        }
+        Err(NoNames::OutOfMemory) => return no_memory(error),
+    };
+    match take_kit(alloc, folders, path) {
+        Ok(kit) => copy_named(alloc, drives.drive(), kit, image, path, &names, error),
+        Err(_) => no_memory(error),
+    }
+}

@@ -1,0 +1,6 @@
+pub mod Folders
+pub mod Keeping
+pub mod HiddenFolders
+pub mod SystemFolders
+pub mod MemoryFolders
+pub mod Paths

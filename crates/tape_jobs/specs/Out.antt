@@ -1,0 +1,213 @@
+-- What the job `out` does, which copies files of an image into a folder.
+use Rattle.std.specs.Prelude.{◌≡◌, ◌≢◌, ◌⊎◌, ◌≤◌, ◌&&◌, ◌||◌, ℕ, Bool, true, false, List, [], ◌∷◌, map, Option, Some, None, is_some}
+use Rattle.lif_model.specs.Apply.{Dir, Fetch, apply}
+use Rattle.lif_model.specs.Causes.{Rose}
+use Rattle.lif_model.specs.Finished.{IsFinished}
+use Rattle.lif_model.specs.Tape.{Tape}
+use Rattle.lif_model.specs.Volume.{Volume}
+use Rattle.lif_dir.specs.Entries.{name_bytes, slot_from}
+use Rattle.lif_dir.specs.declared.entries.Name.{Name}
+use Rattle.il_script.specs.declared.reply.Code.{Code}
+use Rattle.il_script.specs.declared.reply.Reply.TheVariants as reply
+use Rattle.il_script.specs.Sheet.{Sheet}
+use Rattle.tape_names.specs.HostNames.{host_name_of}
+use Rattle.tape_text.specs.Listing.{shown_files}
+use Rattle.tape_folder.specs.Folders.{FolderView, ShowsFiles, file_named, is_hidden}
+use Rattle.tape_folder.specs.Keeping.{AreTaken, part_numbers}
+use Rattle.tape_folder.specs.declared.keeping.Kept.{Kept}
+use Rattle.tape_folder.specs.declared.keeping.Kept.TheVariants as kept
+use Rattle.il_ports.specs.Inserting.{OthersAreKept}
+use Rattle.tape_jobs.specs.Volumes.{FileContent, Mounted, OwnsGate, VolumesView, file_on, reply_by, volume_shown}
+use Rattle.tape_jobs.specs.declared.copying.FileEnd.{FileEnd}
+use Rattle.tape_jobs.specs.declared.copying.FileEnd.TheVariants as file_end
+use Rattle.tape_jobs.specs.declared.copying.Taken.{Taken}
+use Rattle.tape_jobs.specs.declared.went.Went.{Went}
+use Rattle.tape_jobs.specs.declared.went.Went.TheVariants as went
+
+-- the name that a file has on the host
+abbrev pub host_name : List ℕ → FileContent → List ℕ
+host_name name file = host_name_of name file.kind file.field
+
+-- a page has room for every host name
+abbrev pub HasRoomForName : Sheet → Type 0
+HasRoomForName page = 44 ≤ page.room
+
+-- ---- which files are copied
+
+-- The names of the files that are copied: those that are asked for, in their order. If none is, they are the names of
+-- all files of the volume, if contracts can see it, except the redo file.
+abbrev pub AreNamesCopied : (n : ℕ) → (asked : List Name) → (shown : Option (Option Volume)) → (names : List Name) → Type 0
+AreNamesCopied n [] shown names = (v : Volume) → shown ≡ Some (Some v) → names ≡ map (λ e. e.name) (shown_files false n (map slot_from v.slots))
+AreNamesCopied n (name ∷ rest) shown names = names ≡ name ∷ rest
+
+-- a name, if there is one
+abbrev pub named : Option Name → List Name
+named None = []
+named (Some name) = name ∷ []
+
+-- ---- what became of them
+
+-- the folder has the file
+abbrev pub is_copied : FileEnd → Bool
+is_copied (file_end.Kept kept.Written) = true
+is_copied (file_end.Kept kept.WasThere) = true
+is_copied (file_end.Kept kept.Differs) = false
+is_copied (file_end.Kept kept.NotWritten) = false
+is_copied (file_end.Refused code) = false
+is_copied file_end.Fault = false
+
+abbrev pub all_copied : List Taken → Bool
+all_copied [] = true
+all_copied (taken ∷ rest) = is_copied taken.end && all_copied rest
+
+-- the medium failed
+abbrev pub is_fault : FileEnd → Bool
+is_fault (file_end.Kept k) = false
+is_fault (file_end.Refused code) = false
+is_fault file_end.Fault = true
+
+abbrev pub has_fault : List Taken → Bool
+has_fault [] = false
+has_fault (taken ∷ rest) = is_fault taken.end || has_fault rest
+
+-- ---- the image
+
+-- by whether the medium failed: its count of faults rose; or the tape is as before, or settled and finished
+abbrev pub IsReadOnly : (failed : Bool) → (s t : Mounted) → Type 0
+IsReadOnly true s t = Rose s.faults t.faults
+IsReadOnly false s t = (t.faults ≡ s.faults) × ((x y : Tape) → s.tape ≡ Some x → t.tape ≡ Some y → (y ≡ x) ⊎ IsFinished x y)
+
+-- Only commands that read were performed.
+pub record OnlyReads (failed : Bool) (s t : Mounted) : Type 0 where
+  pub records : t.records ≡ s.records
+  pub seen : is_some t.tape ≡ is_some s.tape
+  pub own : OwnsGate s.tape → OwnsGate t.tape
+  pub volume : OwnsGate s.tape → volume_shown t.tape ≡ volume_shown s.tape
+  pub tape : IsReadOnly failed s t
+
+-- Beside the tape nothing changed, and each tape that a stop may have left has the property `leaves`, or could be left
+-- before.
+pub record GoesOnBeside (leaves : Tape → Type 0) (v w : VolumesView) : Type 0 where
+  pub later : is_some v.mounted.tape ≡ true → v.moment ≤ w.moment
+  pub stops : is_some v.mounted.tape ≡ true → (m : ℕ) (x : Tape) → m ≤ v.moment → w.left_since m x → v.left_since m x ⊎ leaves x
+  pub same : w.inside ≡ v.inside
+  pub others : OthersAreKept v.inside v.images w.images
+
+-- ---- the folder
+
+-- What holds of the folder, whatever is copied.
+pub record FolderKeeps (f g : FolderView) : Type 0 where
+  -- no part file is open
+  pub closed : g.part ≡ None
+  pub known : is_some g.files ≡ is_some f.files
+  -- a file that the folder has stays as it is
+  pub keeps : (other bytes : List ℕ) → is_hidden other ≡ false → file_named other f.files ≡ Some bytes → file_named other g.files ≡ Some bytes
+  -- a part file was not removed, or the hidden files are as before
+  pub parts : Rose f.unremoved g.unremoved ⊎ ((other : List ℕ) → is_hidden other ≡ true → file_named other g.files ≡ file_named other f.files)
+  -- no count falls
+  pub failures : f.failures ≤ g.failures
+  pub unremoved : f.unremoved ≤ g.unremoved
+
+-- Each file that is not hidden is as before, or as it is made. So is what a stop may leave under its name.
+pub record FolderGains (makes : List ℕ → Option (List ℕ) → Type 0) (f g : FolderView) : Type 0 where
+  pub files : (other : List ℕ) → (file_named other g.files ≡ file_named other f.files) ⊎ (makes other (file_named other g.files) ⊎ (is_hidden other ≡ true))
+  pub leaves : (other : List ℕ) (content : Option (List ℕ)) → ShowsFiles f → is_hidden other ≡ false → g.leaves other content → f.leaves other content ⊎ makes other content
+  pub left : (other : List ℕ) (content : Option (List ℕ)) → ShowsFiles f → is_hidden other ≡ false → g.left other content → f.left other content ⊎ makes other content
+
+-- a call failed; or the numbers of part files are taken, at the start or after one was not removed
+abbrev pub WasUnableSince : FolderView → FolderView → Type 0
+WasUnableSince f g = Rose f.failures g.failures ⊎ (Rose f.unremoved g.unremoved ⊎ AreTaken part_numbers f)
+
+-- what the folder did with a file of that host name and these bytes, from f to g
+abbrev pub IsKeptSo : (name bytes : List ℕ) → Kept → (f g : FolderView) → Type 0
+IsKeptSo name bytes kept.Written f g = ShowsFiles f → (file_named name f.files ≡ None) × (file_named name g.files ≡ Some bytes)
+IsKeptSo name bytes kept.WasThere f g = ShowsFiles f → file_named name g.files ≡ Some bytes
+IsKeptSo name bytes kept.Differs f g = ShowsFiles f → file_named name f.files ≢ Some bytes
+IsKeptSo name bytes kept.NotWritten f g = WasUnableSince f g
+
+-- The file of that name on the volume v of a medium of n records ended so: it was read; or the command that reads it is
+-- refused; or the medium failed.
+abbrev pub EndIs : (n : ℕ) → Volume → Name → FileEnd → (f g : FolderView) → Type 0
+EndIs n v name (file_end.Kept k) f g = (file : FileContent) × (file_on v (name_bytes name) ≡ Some file)
+    × (is_hidden (host_name (name_bytes name) file) ≡ false) × IsKeptSo (host_name (name_bytes name) file) file.bytes k f g
+EndIs n v name (file_end.Refused code) f g = reply_by (apply n (Fetch (name_bytes name)) (Some v)).0 ≡ reply.No code
+EndIs n v name file_end.Fault f g = Unit {0}
+
+abbrev pub EndsAre : (n : ℕ) → Volume → List Taken → (f g : FolderView) → Type 0
+EndsAre n v [] f g = Unit {0}
+EndsAre n v (taken ∷ rest) f g = EndIs n v taken.name taken.end f g × EndsAre n v rest f g
+
+-- the file was written under that name, with this content
+abbrev pub Writes : Volume → Name → FileEnd → List ℕ → Option (List ℕ) → Type 0
+Writes v name (file_end.Kept kept.Written) other content = (file : FileContent) × (file_on v (name_bytes name) ≡ Some file)
+    × (other ≡ host_name (name_bytes name) file) × (content ≡ Some file.bytes)
+Writes v name _ other content = ⊥
+
+-- one of the files was
+abbrev pub WrittenBy : Volume → List Taken → List ℕ → Option (List ℕ) → Type 0
+WrittenBy v [] other content = ⊥
+WrittenBy v (taken ∷ rest) other content = Writes v taken.name taken.end other content ⊎ WrittenBy v rest other content
+
+-- Files of the volume v were copied, with these ends.
+pub record AreCopied (n : ℕ) (v : Volume) (ends : List Taken) (f g : FolderView) : Type 0 where
+  pub ends_are : EndsAre n v ends f g
+  pub gains : FolderGains (WrittenBy v ends) f g
+
+-- The commands only read, and files were copied with these ends.
+pub record Copied (failed : Bool) (ends : List Taken) (s t : Mounted) (f g : FolderView) : Type 0 where
+  pub reads : OnlyReads failed s t
+  pub keeps : FolderKeeps f g
+  -- if contracts can see the volume
+  pub are_copied : (v : Volume) → OwnsGate s.tape → volume_shown s.tape ≡ Some (Some v) → AreCopied s.records v ends f g
+
+-- ---- the job
+
+-- a stop leaves each file that is not hidden as it is
+abbrev pub IsOnDisk : FolderView → Type 0
+IsOnDisk g = (name : List ℕ) (content : Option (List ℕ)) → ShowsFiles g → is_hidden name ≡ false → g.leaves name content → content ≡ file_named name g.files
+
+-- by what became of the files
+abbrev pub WentBy : Went → List Taken → Type 0
+WentBy went.Done ends = all_copied ends ≡ true
+WentBy went.NotAll ends = all_copied ends ≡ false
+WentBy _ ends = ⊥
+
+-- By how the job went: all files were copied, or one was not, and the disk has the names; or a call of the folder failed.
+abbrev pub FolderWent : Went → (AreNames : List Name → Type 0) → (ends : List Taken) → (f g : FolderView) → Type 0
+FolderWent went.Done AreNames ends f g = (all_copied ends ≡ true) × AreNames (map (λ taken. taken.name) ends) × IsOnDisk g
+FolderWent went.NotAll AreNames ends f g = (all_copied ends ≡ false) × AreNames (map (λ taken. taken.name) ends) × IsOnDisk g
+FolderWent went.FolderLost AreNames ends f g = Rose f.failures g.failures × ((ends ≡ []) ⊎ AreNames (map (λ taken. taken.name) ends))
+FolderWent _ AreNames ends f g = ⊥
+
+-- the command `dir` is refused
+abbrev pub IsRefused : Code → (n : ℕ) → (shown : Option (Option Volume)) → Type 0
+IsRefused code n shown = (before : Option Volume) → shown ≡ Some before → reply_by (apply n Dir before).0 ≡ reply.No code
+
+-- Why the job went so.
+abbrev pub WentSo : Went → (n : ℕ) → (asked : List Name) → (shown : Option (Option Volume)) → (ends : List Taken) → (f g : FolderView) → Type 0
+WentSo (went.Refused code) n asked shown ends f g = (ends ≡ []) × IsRefused code n shown
+WentSo went.Fault n asked shown ends f g = ends ≡ []
+WentSo went.OutOfMemory n asked shown ends f g = ends ≡ []
+WentSo w n asked shown ends f g = FolderWent w (AreNamesCopied n asked shown) ends f g
+
+-- no call of the folder was made
+abbrev pub is_before_folder : Went → Bool
+is_before_folder (went.Refused code) = true
+is_before_folder went.Fault = true
+is_before_folder went.OutOfMemory = true
+is_before_folder _ = false
+
+-- the medium failed
+abbrev pub has_failed : Went → List Taken → Bool
+has_failed went.Fault ends = true
+has_failed _ ends = has_fault ends
+
+-- The files were copied, after the directory was read.
+pub record CopyDid (w : Went) (asked : List Name) (ends : List Taken) (s t : Mounted) (f g : FolderView) : Type 0 where
+  pub copied : Copied (has_failed w ends) ends s t f g
+  pub went_so : WentSo w s.records asked (volume_shown s.tape) ends f g
+
+-- The directory was read, and files were copied. Without a fault the tape is finished.
+pub record OutDid (w : Went) (asked : List Name) (ends : List Taken) (s t : Mounted) (f g : FolderView) : Type 0 where
+  pub did : CopyDid w asked ends s t f g
+  pub finished : has_failed w ends ≡ false → (x y : Tape) → s.tape ≡ Some x → t.tape ≡ Some y → IsFinished x y

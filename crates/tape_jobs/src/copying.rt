@@ -1,0 +1,321 @@
+ghost use Rattle.std.specs.Prelude.{◌≡◌, ◌≤◌, ◌++◌, ◌∷◌, [], None, IfOk, MatchOption, true, false, length, map};
+ghost use Rattle.std.specs.Vec.{vec_capacity};
+ghost use Rattle.lif_model.specs.Apply.{Dir};
+ghost use Rattle.lif_dir.specs.Entries.{name_bytes};
+ghost use Rattle.tape_text.specs.Listing.{shown_slot, shown_files};
+ghost use Rattle.tape_folder.specs.Keeping.{FileKept};
+ghost use Rattle.tape_folder.specs.Folders.{is_hidden};
+ghost use Rattle.tape_jobs.specs.Out.{AreNamesCopied, Copied, CopyDid, FolderWent, GoesOnBeside, HasRoomForName};
+ghost use Rattle.tape_jobs.specs.Out.{OutDid, WentBy, named};
+ghost use Rattle.tape_jobs.specs.Out.{all_copied, has_fault, host_name, is_before_folder, is_fault};
+ghost use Rattle.tape_jobs.specs.Volumes.{StaysBeside, StopLeaves, content_in, volume_shown};
+
+use crate::job::VolumeJob;
+use crate::volumes::{FileRead, Volumes};
+use crate::went::Went;
+use il_script::{Code, Page, Reply};
+use lif_dir::{Name, Slot, SlotTable};
+use lif_plan::is_redo_file;
+use std::alloc::{AllocError, Global};
+use tape_folder::{Folder, Kept, keep};
+use tape_names::{host_name_text, put_host_name};
+
+/// What became of a file that was to be copied.
+#[derive(Clone, Copy, Debug, PartialEq, Eq)]
+pub enum FileEnd {
+    /// It was read, and this is what the folder did.
+    Kept(Kept),
+    /// The volume refused to read it.
+    Refused(Code),
+    /// The medium failed.
+    Fault,
+}
+
+impl FileEnd {
+    ghost use Rattle.std.specs.Prelude.{◌≡◌};
+    ghost use Rattle.tape_jobs.specs.Out.{is_copied};
+
+    /// Whether the folder has the file.
+    pub fn is_copied(self) -> bool
+        ensures { result ≡ is_copied self }
+    {
+        matches!(self, FileEnd::Kept(Kept::Written | Kept::WasThere))
+    }
+}
+
+/// A file that was to be copied, and what became of it.
+#[derive(Clone, Copy, Debug, PartialEq, Eq)]
+pub struct Taken {
+    /// The name of the file.
+    pub name: Name,
+    /// What became of it.
+    pub end: FileEnd,
+}
+
+/// Keeps a file that was read in the folder, under its host name.
+fn keep_file<F: Folder>(name: &Name, file: FileRead<'_>, folder: &mut F, page: &mut Page) -> Kept
+    requires room { HasRoomForName page.old }
+    requires closed { (F.view folder.old).part ≡ None }
+    ensures room { page.new.room ≡ page.old.room }
+    ensures plain { is_hidden (host_name (name_bytes name.now) (content_in file.entry)) ≡ false }
+    ensures kept { FileKept (host_name (name_bytes name.now) (content_in file.entry)) file.entry.bytes.now result
+        (F.view folder.old) (F.view folder.new) }
+{
+    page.clear();
+    put_host_name(page, name, file.kind, &file.field);
+    keep(folder, host_name_text(page), file.bytes)
+}
+
+/// Reads a file of the image, and keeps it in the folder.
+fn take_file<V: Volumes, F: Folder>(
+    volumes: &mut V,
+    name: &Name,
+    folder: &mut F,
+    page: &mut Page,
+) -> FileEnd
+    requires valid { (V.seen volumes.old).valid }
+    requires room { HasRoomForName page.old }
+    requires closed { (F.view folder.old).part ≡ None }
+    ensures valid { (V.seen volumes.new).valid }
+    ensures room { page.new.room ≡ page.old.room }
+    ensures copied { Copied (is_fault result) (record { name = name.now; end = result } ∷ [])
+        (V.seen volumes.old).mounted (V.seen volumes.new).mounted (F.view folder.old) (F.view folder.new) }
+    ensures beside { GoesOnBeside (StopLeaves Dir (V.seen volumes.old).mounted)
+        (V.seen volumes.old) (V.seen volumes.new) }
+{
+    match volumes.fetch(name) {
+        Reply::Ok => FileEnd::Kept(keep_file(name, volumes.file(), folder, page)),
+        Reply::No(code) => FileEnd::Refused(code),
+        Reply::FaultFrame | Reply::FaultMedium => FileEnd::Fault,
+    }
+}
+
+/// Copies the files of these names. If one cannot be copied, the next one is.
+fn take_files<V: Volumes, F: Folder>(
+    volumes: &mut V,
+    names: &[Name],
+    folder: &mut F,
+    page: &mut Page,
+    ends: &mut Vec<Taken>,
+)
+    requires valid { (V.seen volumes.old).valid }
+    requires room { HasRoomForName page.old }
+    requires closed { (F.view folder.old).part ≡ None }
+    requires empty { ends.old.items ≡ [] }
+    requires space { length names.now ≤ vec_capacity ends.old }
+    ensures valid { (V.seen volumes.new).valid }
+    ensures names { map (λ taken. taken.name) ends.new.items ≡ names.now }
+    ensures copied { Copied (has_fault ends.new.items) ends.new.items
+        (V.seen volumes.old).mounted (V.seen volumes.new).mounted (F.view folder.old) (F.view folder.new) }
+    ensures beside { GoesOnBeside (StopLeaves Dir (V.seen volumes.old).mounted)
+        (V.seen volumes.old) (V.seen volumes.new) }
+{
+    for name in names {
+        let end = take_file(volumes, name, folder, page);
+        ends.push(Taken { name: *name, end }).unwrap();
+    }
+}
+
+/// Whether all files were copied.
+fn all_copied(ends: &[Taken]) -> bool
+    ensures { result ≡ all_copied ends.now }
+{
+    for taken in ends {
+        if !taken.end.is_copied() {
+            return false;
+        }
+    }
+    true
+}
+
+/// Says how the job went by what became of the files.
+fn went_by(ends: &[Taken]) -> Went
+    ensures { WentBy result ends.now }
+{
+    if all_copied(ends) {
+        Went::Done
+    } else {
+        Went::NotAll
+    }
+}
+
+/// Makes the folder, and copies the files of these names into it.
+fn copy_files<V: Volumes, F: Folder>(
+    volumes: &mut V,
+    names: &[Name],
+    folder: &mut F,
+    page: &mut Page,
+    ends: &mut Vec<Taken>,
+) -> Went
+    requires valid { (V.seen volumes.old).valid }
+    requires room { HasRoomForName page.old }
+    requires closed { (F.view folder.old).part ≡ None }
+    requires empty { ends.old.items ≡ [] }
+    requires space { length names.now ≤ vec_capacity ends.old }
+    ensures valid { (V.seen volumes.new).valid }
+    ensures copied { Copied (has_fault ends.new.items) ends.new.items
+        (V.seen volumes.old).mounted (V.seen volumes.new).mounted (F.view folder.old) (F.view folder.new) }
+    ensures went { FolderWent result (λ copied. copied ≡ names.now) ends.new.items
+        (F.view folder.old) (F.view folder.new) }
+    ensures beside { GoesOnBeside (StopLeaves Dir (V.seen volumes.old).mounted)
+        (V.seen volumes.old) (V.seen volumes.new) }
+{
+    if folder.prepare().is_err() {
+        return Went::FolderLost;
+    }
+    take_files(volumes, names, folder, page, ends);
+    if folder.settle().is_err() {
+        return Went::FolderLost;
+    }
+    went_by(ends)
+}
+
+/// Returns the name of the file of a slot, unless it is the redo file.
+fn name_at(size: u16, slot: &Slot) -> Option<Name>
+    ensures { MatchOption result (shown_slot false size slot.now ≡ [])
+        (λ name. map (λ e. e.name) (shown_slot false size slot.now) ≡ name ∷ []) }
+{
+    match slot {
+        Slot::Live(entry) if !is_redo_file(*entry, size) => Some(entry.name),
+        _ => None,
+    }
+}
+
+/// Appends a name, if there is one.
+fn add_name(names: &mut Vec<Name>, name: Option<Name>) -> Result<(), AllocError>
+    ensures { IfOk result (λ _. names.new.items ≡ names.old.items ++ named name) }
+{
+    if let Some(name) = name {
+        names.push(name)?;
+    }
+    Ok(())
+}
+
+/// Returns the names of all files except the redo file.
+fn names_in(alloc: Global, size: u16, slots: &SlotTable) -> Result<Vec<Name>, AllocError>
+    ensures { IfOk result (λ names. names.items ≡ map (λ e. e.name) (shown_files false size slots.now.slots)) }
+{
+    let mut names = Vec::new(alloc);
+    'slots: for place in 0..slots.len() {
+        add_name(&mut names, name_at(size, slots.get(place)))?;
+    }
+    Ok(names)
+}
+
+/// Returns the names of the files that are to be copied.
+fn names_to_copy<V: Volumes>(
+    alloc: Global,
+    volumes: &V,
+    asked: &[Name],
+) -> Result<Vec<Name>, AllocError>
+    requires valid { (V.seen volumes.now).valid }
+    requires kept { (V.seen volumes.now).mounted.kept ≡ true }
+    ensures { IfOk result (λ names. AreNamesCopied (V.seen volumes.now).mounted.records asked.now
+        (volume_shown (V.seen volumes.now).mounted.tape) names.items) }
+{
+    if !asked.is_empty() {
+        return asked.to_vec(alloc);
+    }
+    let Some((_, slots)) = volumes.directory() else {
+        unreachable!()
+    };
+    names_in(alloc, volumes.size(), slots)
+}
+
+/// Copies files, after the directory was read. The names and the room for the ends are taken first, since a fault may
+/// make the image forget the directory.
+fn copy_listed<V: Volumes, F: Folder>(
+    alloc: Global,
+    volumes: &mut V,
+    asked: &[Name],
+    folder: &mut F,
+    page: &mut Page,
+    ends: &mut Vec<Taken>,
+) -> Went
+    requires valid { (V.seen volumes.old).valid }
+    requires kept { (V.seen volumes.old).mounted.kept ≡ true }
+    requires room { HasRoomForName page.old }
+    requires closed { (F.view folder.old).part ≡ None }
+    requires empty { ends.old.items ≡ [] }
+    ensures valid { (V.seen volumes.new).valid }
+    ensures copies { CopyDid result asked.now ends.new.items (V.seen volumes.old).mounted (V.seen volumes.new).mounted
+        (F.view folder.old) (F.view folder.new) }
+    ensures untouched { is_before_folder result ≡ true → folder.new ≡ folder.old }
+    ensures beside { GoesOnBeside (StopLeaves Dir (V.seen volumes.old).mounted)
+        (V.seen volumes.old) (V.seen volumes.new) }
+{
+    let Ok(names) = names_to_copy(alloc, volumes, asked) else {
+        return Went::OutOfMemory;
+    };
+    let Ok(room) = Vec::with_capacity(alloc, names.len()) else {
+        return Went::OutOfMemory;
+    };
+    *ends = room;
+    copy_files(volumes, &names, folder, page, ends)
+}
+
+/// Copies files of the image into the folder.
+fn copy<V: Volumes, F: Folder>(
+    alloc: Global,
+    volumes: &mut V,
+    asked: &[Name],
+    folder: &mut F,
+    page: &mut Page,
+    ends: &mut Vec<Taken>,
+) -> Went
+    requires valid { (V.seen volumes.old).valid }
+    requires room { HasRoomForName page.old }
+    requires closed { (F.view folder.old).part ≡ None }
+    requires empty { ends.old.items ≡ [] }
+    ensures valid { (V.seen volumes.new).valid }
+    ensures copies { OutDid result asked.now ends.new.items (V.seen volumes.old).mounted (V.seen volumes.new).mounted
+        (F.view folder.old) (F.view folder.new) }
+    ensures untouched { is_before_folder result ≡ true → folder.new ≡ folder.old }
+    ensures beside { StaysBeside (StopLeaves Dir (V.seen volumes.old).mounted)
+        (V.seen volumes.old) (V.seen volumes.new) }
+{
+    match volumes.list() {
+        Reply::Ok => copy_listed(alloc, volumes, asked, folder, page, ends),
+        Reply::No(code) => Went::Refused(code),
+        Reply::FaultFrame | Reply::FaultMedium => Went::Fault,
+    }
+}
+
+/// The job that copies files of one image into a folder.
+#[derive(Drop)]
+pub struct Copying<'a, F: Drop> {
+    /// The names of the files. If there is none, all files except the redo file are copied.
+    pub names: &'a [Name],
+    /// The folder.
+    pub folder: F,
+    /// A page for a host name.
+    pub page: Page,
+    /// The files that were to be copied, and what became of each. It is empty at first.
+    pub ends: Vec<Taken>,
+}
+
+impl<'a, F: Folder + Drop> VolumeJob for Copying<'a, F> {
+    ghost use Rattle.std.specs.Prelude.{◌≡◌, [], None, true};
+    ghost use Rattle.lif_model.specs.Apply.{Dir};
+    ghost use Rattle.tape_jobs.specs.Out.{HasRoomForName, OutDid, is_before_folder};
+    ghost use Rattle.tape_jobs.specs.Volumes.{StopLeaves};
+
+    ghost asks = { λ job. HasRoomForName job.page × (job.ends.items ≡ []) × ((F.view job.folder).part ≡ None) };
+
+    ghost does = { λ old new went s t.
+        OutDid went old.names.now new.ends.items s t (F.view old.folder) (F.view new.folder)
+        × (is_before_folder went ≡ true → new.folder ≡ old.folder) };
+
+    ghost leaves = { λ job s x. StopLeaves Dir s x };
+
+    fn work<V: Volumes>(&mut self, alloc: Global, volumes: &mut V) -> Went {
+        copy(
+            alloc,
+            volumes,
+            self.names,
+            &mut self.folder,
+            &mut self.page,
+            &mut self.ends,
+        )
+    }
+}
