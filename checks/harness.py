@@ -1,7 +1,9 @@
 """What the scripts of checks/ share: where the repository and its program are, the tools that a script needs, and tries
 that are counted."""
 import os
+import re
 import shutil
+import subprocess
 import sys
 
 TOP = os.path.dirname(os.path.dirname(os.path.abspath(__file__)))
@@ -92,3 +94,30 @@ class Tries:
         """Prints the counts, and ends the script: with exit status 0 if something was tried and nothing is wrong."""
         print(f"{self.tried} tries of {of_what}, {self.wrong} of them wrong")
         sys.exit(1 if self.wrong or not self.tried else 0)
+
+
+# ---- calls of the system
+
+def system_calls(program, *words):
+    """The calls that a program makes of the system: each by its name, and what it concerns. A file descriptor is told by the
+    path that it was opened by."""
+    kinds = "openat,fcntl,mkdir,write,pwrite64,fsync,link,linkat,rename,unlink,flock,close"
+    done = subprocess.run(["strace", "-f", "-e", f"trace={kinds}", program, *words], stdin=subprocess.DEVNULL,
+                          stdout=subprocess.DEVNULL, stderr=subprocess.PIPE, text=True, timeout=60)
+    calls, paths = [], {"1": "standard output", "2": "standard error"}
+    for line in done.stderr.splitlines():
+        call = re.match(r"(?:\[pid +\d+\] )?(\w+)\((.*)\) += (-?\d+)", line)
+        if not call or int(call[3]) < 0:
+            continue
+        kind, told = call[1], re.findall(r'"([^"]*)"', call[2])
+        first = call[2].split(",")[0]
+        if kind == "openat":
+            paths[call[3]] = told[0]
+            calls.append((kind, told[0], *re.findall(r"O_(?:EXCL|RDONLY|RDWR)", call[2])))
+        elif kind == "fcntl":
+            paths[call[3]] = paths.get(first, first)
+        elif kind in ("link", "linkat", "rename", "unlink", "mkdir"):
+            calls.append((kind, told[-1]))
+        else:
+            calls.append((kind, paths.get(first, first), *re.findall(r"LOCK_\w\w\b", call[2])))
+    return [call for call in calls if not re.search(r"/lib|/etc/|^3$", call[1])]

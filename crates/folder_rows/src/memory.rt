@@ -6,13 +6,18 @@ use std::alloc::{AllocError, Global};
 use std::io::ErrorKind;
 use std::process::Abort;
 use std::test::Fail;
-use tape_folder::{Kept, MemoryFolder, keep};
+use tape_folder::{Folder, Kept, MemoryFolder, keep};
 
 /// The bytes that are to be kept.
 const BYTES: &[u8] = b"twelve bytes";
 
-/// A folder with these files, of which these calls fail.
-fn folder(alloc: Global, files: &[(&str, &[u8])], calls: &[u64]) -> Result<MemoryFolder, AllocError>
+/// A folder with these files and these names of what is no file, of which these calls fail.
+fn folder_with(
+    alloc: Global,
+    files: &[(&str, &[u8])],
+    others: &[&str],
+    calls: &[u64],
+) -> Result<MemoryFolder, AllocError>
     ensures { IfOk result (λ f. f.part ≡ None) }
 {
     let mut held = Vec::new(alloc);
@@ -21,11 +26,22 @@ fn folder(alloc: Global, files: &[(&str, &[u8])], calls: &[u64]) -> Result<Memor
         let bytes = file.1.to_vec(alloc)?;
         held.push((name, bytes))?;
     }
+    let mut names = Vec::new(alloc);
+    for other in others {
+        names.push(String::from_str(alloc, other)?)?;
+    }
     let mut fails = Vec::new(alloc);
     for call in calls {
         fails.push((*call, ErrorKind::StorageFull))?;
     }
-    MemoryFolder::new(alloc, held, fails)
+    MemoryFolder::new(alloc, "folder", held, names, fails)
+}
+
+/// A folder with these files, of which these calls fail.
+fn folder(alloc: Global, files: &[(&str, &[u8])], calls: &[u64]) -> Result<MemoryFolder, AllocError>
+    ensures { IfOk result (λ f. f.part ≡ None) }
+{
+    folder_with(alloc, files, &[], calls)
 }
 
 /// Whether the folder has exactly these files, in this order.
@@ -89,6 +105,33 @@ fn answers(rt: HostRuntime) -> Result<(), Fail> {
         &[second, kept],
         6,
     );
+    Ok(())
+}
+
+/// Something that is no file has the name of the file, or that of the part file with the number 0.
+#[test]
+fn others_have_the_names(rt: HostRuntime) -> Result<(), Fail> {
+    let alloc = rt.alloc();
+    let kept = ("FILE", BYTES);
+    let taken = folder_with(alloc, &[], &["OTHER", "FILE"], &[])?;
+    keeps(&rt, taken, 0, Kept::Differs, &[], 1);
+    let part = folder_with(alloc, &[], &[".tape-0.part"], &[])?;
+    keeps(&rt, part, 1, Kept::Written, &[kept], 7);
+    Ok(())
+}
+
+/// A link does not replace what is no file.
+#[test]
+fn a_link_replaces_nothing(rt: HostRuntime) -> Result<(), Fail> {
+    let mut folder = folder_with(rt.alloc(), &[], &["OTHER"], &[])?;
+    folder.make(0)?;
+    folder.write(BYTES)?;
+    folder.sync()?;
+    match folder.link("OTHER") {
+        Ok(()) => assert!(rt; false, "the name is taken"),
+        Err(error) => assert!(rt; same(error.kind(), ErrorKind::AlreadyExists), "the error"),
+    }
+    assert!(rt; has(&folder, &[(".tape-0.part", BYTES)]), "the files");
     Ok(())
 }
 
@@ -173,7 +216,7 @@ fn no_number_is_left(rt: HostRuntime) -> Result<(), Fail> {
         let name = format!(in alloc; ".tape-{number}.part")?;
         held.push((name, Vec::new(alloc)))?;
     }
-    let mut folder = MemoryFolder::new(alloc, held, Vec::new(alloc))?;
+    let mut folder = MemoryFolder::new(alloc, "folder", held, Vec::new(alloc), Vec::new(alloc))?;
     let got = keep(&mut folder, "FILE", BYTES);
     assert!(rt; same(got, Kept::NotWritten), "no number is left");
     assert!(rt; same(folder.files().len(), 1000), "the files");

@@ -7,10 +7,11 @@ use Rattle.std.proofs.Math.ListN.{get_or-map}
 use Rattle.std.proofs.Math.Seq.{take-length, take-suc}
 use Rattle.std.proofs.lemmas.List.{length-map, nil_from_length, take-append-drop}
 use Rattle.std.proofs.lemmas.List.Folds.{find-append, list_all-append}
-use Rattle.il_ports.specs.Media.{MediumView}
-use Rattle.tape.specs.declared.ending.Ending.{Ending}
-use Rattle.tape.specs.Endings.{is_done, is_last, ending_status}
-use Rattle.tape.specs.Several.{AreListed, DirsEnd, ImageListed, Written, status_for, status_or}
+use Rattle.tape_says.specs.declared.ending.Ending.{Ending}
+use Rattle.tape_says.specs.Endings.{is_done, is_last, ending_status}
+use Rattle.tape_says.specs.Outputs.{Written}
+use Rattle.tape.specs.Images.{DriveSight}
+use Rattle.tape.specs.Several.{AreListed, DirsEnd, ImageListed, status_for, status_or}
 
 -- ---- the exit status
 
@@ -53,11 +54,11 @@ status_early count (f ∷ []) e one none (inr last) = ap (λ (o : Option Ending)
 status_early count (f ∷ g ∷ ends) e one none (inr last) =
     ap (λ (o : Option Ending). status_or o (list_all is_done ((f ∷ g ∷ ends) ++ e ∷ []))) (sym (last_found (f ∷ g ∷ ends) e none last))
 
-module _ {M : Type 0} (view : M → MediumView) (csv all : Bool) (names : List (List ℕ)) where
+module _ {M : Type 0} (drives : DriveSight M) (csv all : Bool) (names : List (List ℕ)) where
   listed_more : (first : List (List ℕ)) (ends : List Ending) (name : List ℕ) (e : Ending) (old between now : Written)
-      → AreListed view csv (length names) all first ends old between → ImageListed view csv (length names) all name e between now
-      → AreListed view csv (length names) all (first ++ name ∷ []) (ends ++ e ∷ []) old now
-  listed_more [] [] name e old between now are one = (now, subst (λ w. ImageListed view csv (length names) all name e w now) are one, refl)
+      → AreListed drives csv (length names) all first ends old between → ImageListed drives csv (length names) all name e between now
+      → AreListed drives csv (length names) all (first ++ name ∷ []) (ends ++ e ∷ []) old now
+  listed_more [] [] name e old between now are one = (now, subst (λ w. ImageListed drives csv (length names) all name e w now) are one, refl)
   listed_more [] (f ∷ ends) name e old between now are one = absurd are
   listed_more (n ∷ first) [] name e old between now are one = absurd are
   listed_more (n ∷ first) (f ∷ ends) name e old between now are one = (are.0, are.1, listed_more first ends name e are.0 between now are.2 one)
@@ -65,7 +66,7 @@ module _ {M : Type 0} (view : M → MediumView) (csv all : Bool) (names : List (
   -- the first of these images were listed, and the job goes on
   pub record ListedSoFar (first : List (List ℕ)) (old now : Written) (done : Bool) : Type 0 where
     pub ends : List Ending
-    pub listed : AreListed view csv (length names) all first ends old now
+    pub listed : AreListed drives csv (length names) all first ends old now
     pub one : (length names == 1) ≡ true → ends ≡ []
     pub none : find is_last ends ≡ None
     pub done_is : done ≡ list_all is_done ends
@@ -74,7 +75,7 @@ module _ {M : Type 0} (view : M → MediumView) (csv all : Bool) (names : List (
   so_far_start old = record { ends = []; listed = refl; one = λ same. refl; none = refl; done_is = refl }
 
   pub so_far_more : (first : List (List ℕ)) (name : List ℕ) (e : Ending) (old between now : Written) (done : Bool) → ListedSoFar first old between done
-      → ImageListed view csv (length names) all name e between now → (length names == 1) ≡ false → is_last e ≡ false → ListedSoFar (first ++ name ∷ []) old now (done && is_done e)
+      → ImageListed drives csv (length names) all name e between now → (length names == 1) ≡ false → is_last e ≡ false → ListedSoFar (first ++ name ∷ []) old now (done && is_done e)
   so_far_more first name e old between now done sofar listed several other = record {
     ends = sofar.ends ++ e ∷ [];
     listed = listed_more first sofar.ends name e old between now sofar.listed listed;
@@ -84,7 +85,7 @@ module _ {M : Type 0} (view : M → MediumView) (csv all : Bool) (names : List (
   }
 
   -- none is left
-  pub ends_all : (old now : Written) (done : Bool) → ListedSoFar names old now done → DirsEnd view csv all names (if done then 0 else 1) old now
+  pub ends_all : (old now : Written) (done : Bool) → ListedSoFar names old now done → DirsEnd drives csv all names (if done then 0 else 1) old now
   ends_all old now done sofar = record {
     first = names;
     rest = [];
@@ -95,14 +96,14 @@ module _ {M : Type 0} (view : M → MediumView) (csv all : Bool) (names : List (
     status_is = status_at_end (length names) sofar.ends done sofar.one sofar.none sofar.done_is;
   }
 
-  none_first : (first : List (List ℕ)) (old now : Written) → AreListed view csv (length names) all first [] old now → first ≡ []
+  none_first : (first : List (List ℕ)) (old now : Written) → AreListed drives csv (length names) all first [] old now → first ≡ []
   none_first [] old now are = refl
   none_first (n ∷ first) old now are = absurd are
 
   -- the job ends on this image
   pub ends_early : (first : List (List ℕ)) (name : List ℕ) (rest : List (List ℕ)) (e : Ending) (old between now : Written) (done : Bool) → names ≡ (first ++ name ∷ []) ++ rest
-      → ListedSoFar first old between done → ImageListed view csv (length names) all name e between now → ((length names == 1) ≡ true) ⊎ (is_last e ≡ true)
-      → DirsEnd view csv all names (ending_status e) old now
+      → ListedSoFar first old between done → ImageListed drives csv (length names) all name e between now → ((length names == 1) ≡ true) ⊎ (is_last e ≡ true)
+      → DirsEnd drives csv all names (ending_status e) old now
   ends_early first name rest e old between now done are sofar listed why = record {
     first = first ++ name ∷ [];
     rest = rest;
@@ -115,7 +116,7 @@ module _ {M : Type 0} (view : M → MediumView) (csv all : Bool) (names : List (
     where
       by : ((length names == 1) ≡ true) ⊎ (is_last e ≡ true) → find is_last (sofar.ends ++ e ∷ []) ≡ None → rest ≡ []
       by (inl same) none =
-          let empty = none_first first old between (subst (λ ends. AreListed view csv (length names) all first ends old between) (sofar.one same) sofar.listed) in
+          let empty = none_first first old between (subst (λ ends. AreListed drives csv (length names) all first ends old between) (sofar.one same) sofar.listed) in
           let alone : names ≡ name ∷ rest = are ∙ ap (λ (l : List (List ℕ)). (l ++ name ∷ []) ++ rest) empty in
           let one = eqb-true (length (name ∷ rest)) 1 (sym (ap (λ (l : List (List ℕ)). length l == 1) alone) ∙ same) in
           nil_from_length rest (omega (arith, one))
@@ -123,7 +124,7 @@ module _ {M : Type 0} (view : M → MediumView) (csv all : Bool) (names : List (
 
 -- ---- over the names in memory
 
-module _ {M : Type 0} (view : M → MediumView) (csv all : Bool) (texts : List (Bor (List ℕ))) where
+module _ {M : Type 0} (drives : DriveSight M) (csv all : Bool) (texts : List (Bor (List ℕ))) where
   abbrev pub names : List (List ℕ)
   names = map (λ text. text.now) texts
 
@@ -151,35 +152,35 @@ module _ {M : Type 0} (view : M → MediumView) (csv all : Bool) (texts : List (
     neither_true true b e = cc
     neither_true false b e = (refl, e)
 
-    module _ (e : Ending) (old between now : Written) (done : Bool) (sofar : ListedSoFar view csv all names (take i names) old between done)
-        (one : ImageListed view csv (length texts) all name e between now) where
-      listed_here : ImageListed view csv (length names) all name e between now
-      listed_here = subst (λ k. ImageListed view csv k all name e between now) (sym as_many) one
+    module _ (e : Ending) (old between now : Written) (done : Bool) (sofar : ListedSoFar drives csv all names (take i names) old between done)
+        (one : ImageListed drives csv (length texts) all name e between now) where
+      listed_here : ImageListed drives csv (length names) all name e between now
+      listed_here = subst (λ k. ImageListed drives csv k all name e between now) (sym as_many) one
 
       count_is : (length names == 1) ≡ (length texts == 1)
       count_is = ap (λ (k : ℕ). k == 1) as_many
 
       -- the job ends on this image
-      pub ends_here : (status : ℕ) → status ≡ ending_status e → ((length texts == 1) || is_last e) ≡ true → DirsEnd view csv all names status old now
+      pub ends_here : (status : ℕ) → status ≡ ending_status e → ((length texts == 1) || is_last e) ≡ true → DirsEnd drives csv all names status old now
       ends_here status is why =
           let which : ((length names == 1) || is_last e) ≡ true = ap (λ (b : Bool). b || is_last e) count_is ∙ why in
-          subst (λ (s : ℕ). DirsEnd view csv all names s old now) (sym is)
-          (ends_early view csv all names (take i names) name (drop (i + 1) names) e old between now done split_here sofar listed_here (either_true (length names == 1) (is_last e) which))
+          subst (λ (s : ℕ). DirsEnd drives csv all names s old now) (sym is)
+          (ends_early drives csv all names (take i names) name (drop (i + 1) names) e old between now done split_here sofar listed_here (either_true (length names == 1) (is_last e) which))
 
       -- the job goes on
       pub goes_on : (is_done_now : Bool) → is_done_now ≡ (done && is_done e) → ((length texts == 1) || is_last e) ≡ false
-          → ListedSoFar view csv all names (take (i + 1) names) old now is_done_now
+          → ListedSoFar drives csv all names (take (i + 1) names) old now is_done_now
       goes_on is_done_now is why =
           let which : ((length names == 1) || is_last e) ≡ false = ap (λ (b : Bool). b || is_last e) count_is ∙ why in
           let both = neither_true (length names == 1) (is_last e) which in
-          subst (λ (b : Bool). ListedSoFar view csv all names (take (i + 1) names) old now b) (sym is)
-          (subst (λ (l : List (List ℕ)). ListedSoFar view csv all names l old now (done && is_done e)) (sym one_more)
-          (so_far_more view csv all names (take i names) name e old between now done sofar listed_here both.0 both.1))
+          subst (λ (b : Bool). ListedSoFar drives csv all names (take (i + 1) names) old now b) (sym is)
+          (subst (λ (l : List (List ℕ)). ListedSoFar drives csv all names l old now (done && is_done e)) (sym one_more)
+          (so_far_more drives csv all names (take i names) name e old between now done sofar listed_here both.0 both.1))
 
   -- none is left
-  pub ends_after : (i : ℕ) → i ≤ length texts → length texts ≤ i → (old now : Written) (done : Bool) (status : ℕ) → status ≡ (if done then 0 else 1) → ListedSoFar view csv all names (take i names) old now done
-      → DirsEnd view csv all names status old now
+  pub ends_after : (i : ℕ) → i ≤ length texts → length texts ≤ i → (old now : Written) (done : Bool) (status : ℕ) → status ≡ (if done then 0 else 1) → ListedSoFar drives csv all names (take i names) old now done
+      → DirsEnd drives csv all names status old now
   ends_after i within past old now done status is sofar =
       let whole : take i names ≡ names = ap (λ (k : ℕ). take k names) (omega (arith, within, past, as_many)) ∙ take-length names in
-      subst (λ (s : ℕ). DirsEnd view csv all names s old now) (sym is)
-      (ends_all view csv all names old now done (subst (λ (l : List (List ℕ)). ListedSoFar view csv all names l old now done) whole sofar))
+      subst (λ (s : ℕ). DirsEnd drives csv all names s old now) (sym is)
+      (ends_all drives csv all names old now done (subst (λ (l : List (List ℕ)). ListedSoFar drives csv all names l old now done) whole sofar))

@@ -13,8 +13,8 @@ use Rattle.tape_jobs.specs.declared.went.Went.{Went}
 use Rattle.tape_jobs.specs.declared.went.Went.TheVariants as went
 use Rattle.tape.specs.Mounts.{mounted_in}
 use Rattle.tape.specs.Images.{DoneOrNot, JobEnds, WorksOnImage, WorksOnTape, mounted_on}
-use Rattle.tape.specs.declared.ending.Ending.{Ending}
-use Rattle.tape.specs.declared.ending.Ending.TheVariants as ending
+use Rattle.tape_says.specs.declared.ending.Ending.{Ending}
+use Rattle.tape_says.specs.declared.ending.Ending.TheVariants as ending
 
 told_is : (tape : Option Tape) → is_some tape ≡ true → (t : Tape) × (tape ≡ Some t)
 told_is None told = cc
@@ -102,9 +102,9 @@ works_on_image does leaves name v m n law did works = record {
 }
 
 -- what it means that nothing was done
-pub ends_with : (does : Went → Mounted → Mounted → Type 0) (leaves : Mounted → Tape → Type 0) (nothing none : Type 0) (e : Ending) (name : List ℕ) (v m : MediumView) → (nothing → none)
-    → JobEnds does leaves nothing e name v m → JobEnds does leaves none e name v m
-ends_with does leaves nothing none (ending.Went w) name v m means ends = record {
+pub ends_with : (does : Went → Mounted → Mounted → Type 0) (leaves : Mounted → Tape → Type 0) (nothing none refused : Type 0) (e : Ending) (name : List ℕ) (v m : MediumView) → (nothing → none)
+    → JobEnds does leaves nothing refused e name v m → JobEnds does leaves none refused e name v m
+ends_with does leaves nothing none refused (ending.Went w) name v m means ends = record {
   start = ends.start;
   kept = ends.kept;
   reads = ends.reads;
@@ -116,6 +116,6 @@ ends_with does leaves nothing none (ending.Went w) name v m means ends = record 
   shelf = ends.shelf;
   stops = ends.stops;
 }
-ends_with does leaves nothing none ending.NoImage name v m means ends = (ends.0, ends.1, ends.2, means ends.3)
-ends_with does leaves nothing none ending.ImageTooLarge name v m means ends = (ends.0, ends.1, ends.2, means ends.3)
-ends_with does leaves nothing none ending.NotOpened name v m means ends = (ends.0, ends.1, means ends.2)
+ends_with does leaves nothing none refused ending.NoImage name v m means ends = (ends.0, ends.1, ends.2, means ends.3)
+ends_with does leaves nothing none refused ending.ImageTooLarge name v m means ends = (ends.0, ends.1, ends.2, means ends.3)
+ends_with does leaves nothing none refused ending.NotOpened name v m means ends = (ends.0, ends.1, ends.2, means ends.3)

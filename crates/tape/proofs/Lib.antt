@@ -1,5 +1,6 @@
 mod Mounts
 mod Inserts
 mod Chains
-mod Said
 mod Spelt
+mod Wholes
+mod Performed

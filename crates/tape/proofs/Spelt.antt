@@ -1,10 +1,10 @@
 -- Names that are read one by one.
 use Rattle.std.proofs.Common.{◌≡◌, ◌<◌, ◌+◌, ◌∙◌, ◌++◌, ◌∷◌, Bor, get_or, drop, length, map, ℕ, List, [], Option, Some, None, refl, sym, ap, arith}
-use Rattle.std.specs.Prelude.{option_map, option_and_then}
+use Rattle.std.specs.Prelude.{option_map, option_and_then, is_none, if◌then◌else◌}
 use Rattle.std.proofs.Math.ListN.{get_or-map}
 use Rattle.std.proofs.lemmas.List.{append_assoc, append-nil, drop_more, length-map}
 use Rattle.lif_dir.specs.declared.entries.Name.{Name}
-use Rattle.tape.specs.Names.{name_spelt, names_spelt}
+use Rattle.tape.specs.Names.{name_spelt, names_spelt, unspelt}
 
 -- these names, and then those that are to come, if there are some
 abbrev pub with_names : List Name → Option (List Name) → Option (List Name)
@@ -40,6 +40,24 @@ module _ (texts : List (Bor (List ℕ))) (i : ℕ) (d : Bor (List ℕ)) (within 
   pub no_names : (names : List Name) (found : Option Name) → found ≡ name_spelt (get_or texts i d).now → found ≡ None → with_names names (names_spelt (drop i words)) ≡ names_spelt words → names_spelt words ≡ None
   no_names names found spells is whole =
       sym whole ∙ ap (with_names names) spelt_here ∙ ap (λ (o : Option Name). with_names names (name_before o (names_spelt (drop (i + 1) words)))) (sym spells ∙ is)
+
+  -- the first text from here on that spells no name, by whether this one spells one
+  abbrev first_from : Option Name → Option (List ℕ)
+  first_from name = if is_none name then Some (get_or texts i d).now else unspelt (drop (i + 1) words)
+
+  unspelt_here : unspelt (drop i words) ≡ first_from (name_spelt (get_or texts i d).now)
+  unspelt_here =
+      let many = length-map texts (λ text. text.now) in
+      ap unspelt (drop_more words i d.now (omega (arith, within, many)))
+      ∙ ap (λ (word : List ℕ). if is_none (name_spelt word) then Some word else unspelt (drop (i + 1) words)) (get_or-map (λ text. text.now) texts i d)
+
+  -- the next text spells a name
+  pub unspelt_more : (name : Name) (found : Option Name) → found ≡ name_spelt (get_or texts i d).now → found ≡ Some name → unspelt (drop i words) ≡ unspelt words → unspelt (drop (i + 1) words) ≡ unspelt words
+  unspelt_more name found spells is whole = sym (unspelt_here ∙ ap first_from (sym spells ∙ is)) ∙ whole
+
+  -- it spells none
+  pub first_unspelt : (found : Option Name) → found ≡ name_spelt (get_or texts i d).now → found ≡ None → unspelt (drop i words) ≡ unspelt words → unspelt words ≡ Some (get_or texts i d).now
+  first_unspelt found spells is whole = sym whole ∙ unspelt_here ∙ ap first_from (sym spells ∙ is)
 
 -- none is to come
 pub all_names : (names : List Name) (whole : Option (List Name)) → with_names names (Some []) ≡ whole → whole ≡ Some names

@@ -2,27 +2,26 @@
 use Rattle.std.specs.Prelude.{◌≡◌, ◌⊎◌, ℕ, List, Option, Some, None}
 use Rattle.lif_dir.specs.Entries.{name_bytes}
 use Rattle.lif_dir.specs.declared.entries.Name.{Name}
-use Rattle.il_ports.specs.Media.{MediumView}
 use Rattle.tape_jobs.specs.declared.reading.Part.{Part}
-use Rattle.tape.specs.declared.ending.Ending.{Ending}
-use Rattle.tape.specs.Endings.{ending_status}
-use Rattle.tape.specs.Images.{ReadEnds}
-use Rattle.tape.specs.Messages.{WritesFileEnding}
-use Rattle.tape.specs.Several.{PrintsNothing, Written}
+use Rattle.tape_says.specs.declared.ending.Ending.{Ending}
+use Rattle.tape_says.specs.Endings.{ending_status}
+use Rattle.tape.specs.Images.{DriveSight, ReadEnds}
+use Rattle.tape_says.specs.Messages.{WritesFileEnding, no_name_line}
+use Rattle.tape_says.specs.Outputs.{LacksMemory, PrintsNothing, WritesError, Written}
 
 -- The image of that name was inserted in an empty drive, and its file read; the job ended so, and its message was written. The file was named
 -- by this text.
-pub record FileIsRead {M : Type 0} (view : M → MediumView) (part : Part) (image : List ℕ) (file : Name) (text : List ℕ) (status : ℕ) (old now : Written) : Type 0 where
+pub record FileIsRead {M : Type 0} (drives : DriveSight M) (part : Part) (image : List ℕ) (file : Name) (text : List ℕ) (status : ℕ) (old now : Written) : Type 0 where
   pub drive : M
   pub drive_now : M
-  pub empty : (view drive).record_count ≡ 0
+  pub empty : (drives.view drive).record_count ≡ 0
   pub ending : Ending
-  pub ends : ReadEnds ending image part (name_bytes file) (view drive) (view drive_now) old.out now.out old.out_faults now.out_faults
+  pub ends : ReadEnds (drives.refuses drive drive_now image) ending image part (name_bytes file) (drives.view drive) (drives.view drive_now) old.out now.out old.out_faults now.out_faults
   pub status_is : status ≡ ending_status ending
   pub says : WritesFileEnding image text ending old.error now.error old.error_faults now.error_faults
 
 -- The same; or there was no memory to begin with. A text that spells the name of no file is refused.
-abbrev pub ReadsNamedFile : {M : Type 0} → (M → MediumView) → Part → (image : List ℕ) → Option Name → (text : List ℕ) → (status : ℕ) → (old now : Written) → Type 0
-ReadsNamedFile view part image (Some file) text status old now =
-    ((status ≡ 7) × PrintsNothing old now) ⊎ FileIsRead view part image file text status old now
-ReadsNamedFile view part image None text status old now = (status ≡ 2) × PrintsNothing old now
+abbrev pub ReadsNamedFile : {M : Type 0} → DriveSight M → Part → (image : List ℕ) → Option Name → (text : List ℕ) → (status : ℕ) → (old now : Written) → Type 0
+ReadsNamedFile drives part image (Some file) text status old now =
+    LacksMemory status old now ⊎ FileIsRead drives part image file text status old now
+ReadsNamedFile drives part image None text status old now = (status ≡ 2) × PrintsNothing old now × WritesError (no_name_line text) old now

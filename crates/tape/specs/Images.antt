@@ -16,8 +16,16 @@ use Rattle.tape_jobs.specs.declared.listing.Style.{Style}
 use Rattle.tape_jobs.specs.declared.reading.Part.{Part}
 use Rattle.tape_jobs.specs.declared.went.Went.{Went}
 use Rattle.tape_jobs.specs.declared.went.Went.TheVariants as went
-use Rattle.tape.specs.declared.ending.Ending.{Ending}
-use Rattle.tape.specs.declared.ending.Ending.TheVariants as ending
+use Rattle.tape_says.specs.declared.ending.Ending.{Ending}
+use Rattle.tape_says.specs.declared.ending.Ending.TheVariants as ending
+
+-- What contracts see of drives of one kind: the view of each, and why an insert of an image of that name failed.
+pub record DriveSight (M : Type 0) : Type 1 where
+  pub view : M → MediumView
+  pub refuses : M → M → (name : List ℕ) → Type 0
+
+abbrev pub sight : {M : Type 0} → (M → MediumView) → (M → M → List ℕ → Option ℕ → Type 0) → DriveSight M
+sight view refuses = record { view = view; refuses = λ drive drive_now name. refuses drive drive_now name None }
 
 -- the tape in the drive of a medium, with its directory kept in memory or not
 abbrev pub mounted_on : Bool → MediumView → Mounted
@@ -49,25 +57,25 @@ pub record WorksOnImage (does : Mounted → Mounted → Type 0) (leaves : Mounte
   pub shelf : (shelf : Shelf) → v.shelf ≡ Some shelf → HasImage name m.tape shelf m.shelf
   pub stops : is_some start.tape ≡ true → (x : Tape) → MayHaveLeft v m x → (start.tape ≡ Some x) ⊎ leaves start x
 
--- How a job ends on the image of that name. If the image is not opened, nothing was done.
-abbrev pub JobEnds : (does : Went → Mounted → Mounted → Type 0) (leaves : Mounted → Tape → Type 0) (nothing : Type 0) → Ending → (name : List ℕ) (v w : MediumView) → Type 0
-JobEnds does leaves nothing (ending.Went w) name v m = WorksOnImage (DoneOrNot does nothing w) leaves name v m
-JobEnds does leaves nothing ending.NoImage name v m =
+-- How a job ends on the image of that name. If the image is not opened, nothing was done, and `refused` says why an insert failed.
+abbrev pub JobEnds : (does : Went → Mounted → Mounted → Type 0) (leaves : Mounted → Tape → Type 0) (nothing refused : Type 0) → Ending → (name : List ℕ) (v w : MediumView) → Type 0
+JobEnds does leaves nothing refused (ending.Went w) name v m = WorksOnImage (DoneOrNot does nothing w) leaves name v m
+JobEnds does leaves nothing refused ending.NoImage name v m =
     Refuses v.shelf m.shelf m.inside m.tape m.record_count × ((s : Shelf) → v.shelf ≡ Some s → image_of name s ≡ None)
     × (m.faults ≡ v.faults) × nothing
-JobEnds does leaves nothing ending.ImageTooLarge name v m =
+JobEnds does leaves nothing refused ending.ImageTooLarge name v m =
     Refuses v.shelf m.shelf m.inside m.tape m.record_count
     × ((s : Shelf) → v.shelf ≡ Some s → (bytes : List ℕ) × (image_of name s ≡ Some bytes) × (largest_image < length bytes))
     × (m.faults ≡ v.faults) × nothing
-JobEnds does leaves nothing ending.NotOpened name v m =
-    Refuses v.shelf m.shelf m.inside m.tape m.record_count × Rose v.faults m.faults × nothing
+JobEnds does leaves nothing refused ending.NotOpened name v m =
+    Refuses v.shelf m.shelf m.inside m.tape m.record_count × Rose v.faults m.faults × refused × nothing
 
 -- how `dir` ends
-abbrev pub DirEnds : Ending → (name : List ℕ) (style : Style) (all : Bool) (v w : MediumView) (before now : Option (List ℕ)) (faults faults_now : ℕ) → Type 0
-DirEnds e name style all v m before now faults faults_now =
-    JobEnds (λ w s t. DirDid w style all s t before now faults faults_now) (StopLeaves Dir) (WritesNothing before now faults faults_now) e name v m
+abbrev pub DirEnds : (refused : Type 0) → Ending → (name : List ℕ) (style : Style) (all : Bool) (v w : MediumView) (before now : Option (List ℕ)) (faults faults_now : ℕ) → Type 0
+DirEnds refused e name style all v m before now faults faults_now =
+    JobEnds (λ w s t. DirDid w style all s t before now faults faults_now) (StopLeaves Dir) (WritesNothing before now faults faults_now) refused e name v m
 
 -- how `get` or `raw` ends on the file of that name
-abbrev pub ReadEnds : Ending → (name : List ℕ) (part : Part) (file : List ℕ) (v w : MediumView) (before now : Option (List ℕ)) (faults faults_now : ℕ) → Type 0
-ReadEnds e name part file v m before now faults faults_now =
-    JobEnds (λ w s t. ReadDid w part file s t before now faults faults_now) (StopLeaves (Fetch file)) (WritesNothing before now faults faults_now) e name v m
+abbrev pub ReadEnds : (refused : Type 0) → Ending → (name : List ℕ) (part : Part) (file : List ℕ) (v w : MediumView) (before now : Option (List ℕ)) (faults faults_now : ℕ) → Type 0
+ReadEnds refused e name part file v m before now faults faults_now =
+    JobEnds (λ w s t. ReadDid w part file s t before now faults faults_now) (StopLeaves (Fetch file)) (WritesNothing before now faults faults_now) refused e name v m

@@ -1,9 +1,11 @@
 pub mod Mounts
-pub mod Endings
 pub mod Images
-pub mod Messages
 pub mod Several
 pub mod Names
 pub mod Files
 pub mod Copies
+pub mod Shown
+pub mod WholeImages
+pub mod Whys
+pub mod Comparing
 pub mod Performing

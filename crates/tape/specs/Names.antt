@@ -1,5 +1,5 @@
 -- The names of files that arguments spell.
-use Rattle.std.specs.Prelude.{◌≡◌, ℕ, List, [], ◌∷◌, Option, Some, None, option_map, option_and_then, Result, Err}
+use Rattle.std.specs.Prelude.{◌≡◌, ℕ, List, [], ◌∷◌, Option, Some, None, find, is_none, option_map, option_and_then, Result, Err}
 use Rattle.lif_dir.specs.Names.{name_of_bytes}
 use Rattle.lif_dir.specs.declared.entries.Name.{Name}
 use Rattle.il_script.specs.Spelling.{spelt}
@@ -15,7 +15,11 @@ abbrev pub names_spelt : List (List ℕ) → Option (List Name)
 names_spelt [] = Some []
 names_spelt (text ∷ texts) = option_and_then (λ name. option_map (λ names. name ∷ names) (names_spelt texts)) (name_spelt text)
 
--- a text is refused only if not all of them spell names
-abbrev pub IsRefusedName : {T : Type 0} → Option (List Name) → Result T NoNames → Type 0
-IsRefusedName names (Err (NoName text)) = names ≡ None
-IsRefusedName names _ = Unit {0}
+-- the first of these texts that spells no name
+abbrev pub unspelt : List (List ℕ) → Option (List ℕ)
+unspelt texts = find (λ text. is_none (name_spelt text)) texts
+
+-- not all of them spell names, and this is the first that does not
+abbrev pub IsRefusedName : {T : Type 0} → List (List ℕ) → Result T NoNames → Type 0
+IsRefusedName texts (Err (NoName text)) = (names_spelt texts ≡ None) × (unspelt texts ≡ Some text.now)
+IsRefusedName texts _ = Unit {0}

@@ -2,30 +2,14 @@
 use Rattle.std.specs.Prelude.{◌≡◌, ◌⊎◌, ◌∷◌, ◌++◌, ◌==◌, ℕ, Bool, true, false, List, [], length, find, Option, Some, None, option_map, if◌then◌else◌}
 use Rattle.std.specs.Io.KnownBytes.{Appends}
 use Rattle.std.specs.List.{list_all}
-use Rattle.lif_model.specs.Causes.{Rose}
-use Rattle.il_ports.specs.Media.{MediumView}
-use Rattle.il_ports.specs.Writing.{WritesFront}
 use Rattle.tape_jobs.specs.declared.listing.Style.{Style}
 use Rattle.tape_jobs.specs.declared.listing.Style.TheVariants as style
 use Rattle.tape_text.specs.Rows.{column_names, row_line}
-use Rattle.tape.specs.declared.ending.Ending.{Ending}
-use Rattle.tape.specs.Endings.{ending_status, is_done, is_last}
-use Rattle.tape.specs.Images.{DirEnds}
-use Rattle.tape.specs.Messages.{WritesEnding}
-
--- what was written to standard output and to standard error, if contracts can see it, and the counts of their faults
-pub record Written : Type 0 where
-  pub out : Option (List ℕ)
-  pub out_faults : ℕ
-  pub error : Option (List ℕ)
-  pub error_faults : ℕ
-
-abbrev pub written : (out : Option (List ℕ)) (out_faults : ℕ) (error : Option (List ℕ)) (error_faults : ℕ) → Written
-written out out_faults error error_faults = record { out = out; out_faults = out_faults; error = error; error_faults = error_faults }
-
--- standard output is as before
-abbrev pub PrintsNothing : Written → Written → Type 0
-PrintsNothing old now = (now.out ≡ old.out) × (now.out_faults ≡ old.out_faults)
+use Rattle.tape_says.specs.declared.ending.Ending.{Ending}
+use Rattle.tape_says.specs.Endings.{ending_status, is_done, is_last}
+use Rattle.tape.specs.Images.{DriveSight, DirEnds}
+use Rattle.tape_says.specs.Messages.{WritesEnding}
+use Rattle.tape_says.specs.Outputs.{LosesOutput, TellsNothing, Written}
 
 -- the name before a listing: each image has one if the job has several
 abbrev pub heading_for : ℕ → List ℕ → Option (List ℕ)
@@ -35,22 +19,25 @@ heading_for count name = if count == 1 then None else Some name
 abbrev pub IsStyleFor : (csv : Bool) → ℕ → List ℕ → Style → Type 0
 IsStyleFor csv count name (style.Columns heading) = (csv ≡ false) × (option_map (λ text. text.now) heading ≡ heading_for count name)
 IsStyleFor csv count name (style.Rows image) = (csv ≡ true) × (image.now ≡ name)
+IsStyleFor csv count name style.Free = ⊥
+IsStyleFor csv count name style.Map = ⊥
+IsStyleFor csv count name style.Picture = ⊥
 
 -- The image of that name was listed, in an empty drive, as one of `count` images; the job ended so on it, and its message was written.
-pub record ImageListed {M : Type 0} (view : M → MediumView) (csv : Bool) (count : ℕ) (all : Bool) (name : List ℕ) (e : Ending) (old now : Written) : Type 0 where
+pub record ImageListed {M : Type 0} (drives : DriveSight M) (csv : Bool) (count : ℕ) (all : Bool) (name : List ℕ) (e : Ending) (old now : Written) : Type 0 where
   pub drive : M
   pub drive_now : M
-  pub empty : (view drive).record_count ≡ 0
+  pub empty : (drives.view drive).record_count ≡ 0
   pub style : Style
   pub style_is : IsStyleFor csv count name style
-  pub ends : DirEnds e name style all (view drive) (view drive_now) old.out now.out old.out_faults now.out_faults
+  pub ends : DirEnds (drives.refuses drive drive_now name) e name style all (drives.view drive) (drives.view drive_now) old.out now.out old.out_faults now.out_faults
   pub says : WritesEnding name e old.error now.error old.error_faults now.error_faults
 
-module _ {M : Type 0} (view : M → MediumView) (csv : Bool) (count : ℕ) (all : Bool) where
+module _ {M : Type 0} (drives : DriveSight M) (csv : Bool) (count : ℕ) (all : Bool) where
   -- the images of these names were listed in this order, and the job ended so on each
   abbrev pub AreListed : List (List ℕ) → List Ending → (old now : Written) → Type 0
   AreListed [] [] old now = now ≡ old
-  AreListed (name ∷ names) (e ∷ ends) old now = (between : Written) × ImageListed view csv count all name e old between × AreListed names ends between now
+  AreListed (name ∷ names) (e ∷ ends) old now = (between : Written) × ImageListed drives csv count all name e old between × AreListed names ends between now
   AreListed _ _ old now = ⊥
 
 abbrev pub status_or : Option Ending → Bool → ℕ
@@ -67,23 +54,23 @@ status_for count (e ∷ []) = if count == 1 then ending_status e else status_of_
 status_for count ends = status_of_all ends
 
 -- The images of these names were listed, up to the end, or up to the first on which the job ends.
-pub record DirsEnd {M : Type 0} (view : M → MediumView) (csv : Bool) (all : Bool) (names : List (List ℕ)) (status : ℕ) (old now : Written) : Type 0 where
+pub record DirsEnd {M : Type 0} (drives : DriveSight M) (csv : Bool) (all : Bool) (names : List (List ℕ)) (status : ℕ) (old now : Written) : Type 0 where
   pub first : List (List ℕ)
   pub rest : List (List ℕ)
   pub are : names ≡ first ++ rest
   pub ends : List Ending
-  pub listed : AreListed view csv (length names) all first ends old now
+  pub listed : AreListed drives csv (length names) all first ends old now
   pub whole : find is_last ends ≡ None → rest ≡ []
   pub status_is : status ≡ status_for (length names) ends
 
 -- The first row of CSV could not be written, and the job ended; or it was written, and the images were listed.
-abbrev pub RowsEnd : {M : Type 0} → (M → MediumView) → (all : Bool) → List (List ℕ) → (status : ℕ) → (old now : Written) → Type 0
-RowsEnd view all names status old now =
-    ((status ≡ 6) × WritesFront old.out now.out (row_line column_names) × Rose old.out_faults now.out_faults)
+abbrev pub RowsEnd : {M : Type 0} → DriveSight M → (all : Bool) → List (List ℕ) → (status : ℕ) → (old now : Written) → Type 0
+RowsEnd drives all names status old now =
+    LosesOutput (row_line column_names) status old now
     ⊎ ((between : Written) × Appends old.out between.out (row_line column_names) × (between.out_faults ≡ old.out_faults)
-    × (between.error ≡ old.error) × (between.error_faults ≡ old.error_faults) × DirsEnd view true all names status between now)
+    × TellsNothing old between × DirsEnd drives true all names status between now)
 
 -- The images of these names were listed, in columns or as CSV.
-abbrev pub DirDone : {M : Type 0} → (M → MediumView) → (csv : Bool) → (all : Bool) → List (List ℕ) → (status : ℕ) → (old now : Written) → Type 0
-DirDone view true all names status old now = RowsEnd view all names status old now
-DirDone view false all names status old now = DirsEnd view false all names status old now
+abbrev pub DirDone : {M : Type 0} → DriveSight M → (csv : Bool) → (all : Bool) → List (List ℕ) → (status : ℕ) → (old now : Written) → Type 0
+DirDone drives true all names status old now = RowsEnd drives all names status old now
+DirDone drives false all names status old now = DirsEnd drives false all names status old now

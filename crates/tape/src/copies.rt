@@ -1,28 +1,29 @@
 ghost use Rattle.std.specs.Prelude.{◌≡◌, [], IfOk, None, map};
+ghost use Rattle.tape.specs.Images.{sight};
 ghost use Rattle.tape.specs.Copies.{CopiesFiles, FilesAreCopied};
-ghost use Rattle.tape.specs.Several.{written};
+ghost use Rattle.tape_folder.specs.Paths.{IsFolderPath};
 
-use crate::copy_messages::write_copied;
 use crate::images::{Returned, work_on_image};
-use crate::messages::{no_memory, refuse_name};
 use crate::names::{NoNames, names_spelt};
 use crate::several::Drives;
-use exits::BAD_WORDS;
 use il_ports::{Medium, Sink};
 use il_script::Page;
 use lif_dir::Name;
 use std::alloc::{AllocError, Global};
 use tape_folder::Folder;
-use tape_jobs::Copying;
+use tape_jobs::{Copying, Progress};
 use tape_names::HOST_NAME_LENGTH;
+use tape_says::{no_memory, refuse_name, write_copied};
 
 /// Where folders come from.
 pub trait Folders<F: Folder> {
     ghost use Rattle.std.specs.Prelude.{◌≡◌, IfOk, None};
+    ghost use Rattle.tape_folder.specs.Paths.{IsFolderPath};
 
     /// The folder of that path. It takes all its memory here.
     fn folder(&mut self, alloc: Global, path: &str) -> Result<F, AllocError>
-        ensures { IfOk result (λ folder. (F.view folder).part ≡ None) };
+        ensures closed { IfOk result (λ folder. (F.view folder).part ≡ None) }
+        ensures path { IfOk result (λ folder. IsFolderPath path.now (F.view folder).path) };
 }
 
 /// What the job takes before it opens the image: the folder, a page for the name that a file has there, and one for
@@ -41,6 +42,7 @@ fn take_kit<F: Folder + Drop, G: Folders<F>>(
     path: &str,
 ) -> Result<Kit<F>, AllocError>
     ensures { IfOk result (λ kit. ((F.view kit.folder).part ≡ None)
+        × IsFolderPath path.now (F.view kit.folder).path
         × (kit.page ≡ record { text = []; room = HOST_NAME_LENGTH })
         × (kit.line ≡ record { text = []; room = HOST_NAME_LENGTH })) }
 {
@@ -52,10 +54,11 @@ fn take_kit<F: Folder + Drop, G: Folders<F>>(
 }
 
 /// Copies the files of these names, or all files if there is no name, into a folder, and says the exit status.
-fn copy_named<M: Medium + Drop, F: Folder + Drop, E: Sink>(
+fn copy_named<M: Medium + Drop, F: Folder + Drop, P: Sink + Drop, E: Sink>(
     alloc: Global,
     drive: M,
     kit: Kit<F>,
+    progress: Progress<P>,
     image: &str,
     path: &str,
     names: &[Name],
@@ -63,9 +66,10 @@ fn copy_named<M: Medium + Drop, F: Folder + Drop, E: Sink>(
 ) -> u8
     requires empty { (M.view drive).record_count ≡ 0 }
     requires closed { (F.view kit.folder).part ≡ None }
+    requires place { IsFolderPath path.now (F.view kit.folder).path }
     requires page { kit.page ≡ record { text = []; room = HOST_NAME_LENGTH } }
     requires line { kit.line ≡ record { text = []; room = HOST_NAME_LENGTH } }
-    ensures { FilesAreCopied M.view F.view image.now path.now names.now result
+    ensures { FilesAreCopied (sight M.view M.refuses) F.view image.now path.now names.now result
         (E.written error.old) (E.written error.new) (E.faults error.old) (E.faults error.new) }
 {
     let Kit {
@@ -77,6 +81,7 @@ fn copy_named<M: Medium + Drop, F: Folder + Drop, E: Sink>(
         names,
         folder,
         page,
+        progress,
         ends: Vec::new(alloc),
     };
     let (ending, returned) = work_on_image(alloc, drive, image, job);
@@ -86,28 +91,42 @@ fn copy_named<M: Medium + Drop, F: Folder + Drop, E: Sink>(
 }
 
 /// Does the job `out`, and says the exit status.
-pub fn copy_files<M: Medium + Drop, D: Drives<M>, F: Folder + Drop, G: Folders<F>, E: Sink>(
+pub fn copy_files<
+    M: Medium + Drop,
+    D: Drives<M>,
+    F: Folder + Drop,
+    G: Folders<F>,
+    P: Sink + Drop,
+    E: Sink,
+>(
     alloc: Global,
     drives: &mut D,
     folders: &mut G,
+    progress: Progress<P>,
     image: &str,
     path: &str,
     texts: &[&str],
     error: &mut E,
 ) -> u8
-    ensures { CopiesFiles M.view F.view image.now path.now (map (λ text. text.now) texts.now) result
+    ensures { CopiesFiles (sight M.view M.refuses) F.view image.now path.now (map (λ text. text.now) texts.now) result
         (E.written error.old) (E.written error.new) (E.faults error.old) (E.faults error.new) }
 {
     let names = match names_spelt(alloc, texts) {
         Ok(names) => names,
-        Err(NoNames::NoName(text)) => {
-            refuse_name(error, text);
-            return BAD_WORDS;
-        }
+        Err(NoNames::NoName(text)) => return refuse_name(error, text),
         Err(NoNames::OutOfMemory) => return no_memory(error),
     };
     match take_kit(alloc, folders, path) {
-        Ok(kit) => copy_named(alloc, drives.drive(), kit, image, path, &names, error),
+        Ok(kit) => copy_named(
+            alloc,
+            drives.drive(),
+            kit,
+            progress,
+            image,
+            path,
+            &names,
+            error,
+        ),
         Err(_) => no_memory(error),
     }
 }

@@ -1,6 +1,6 @@
 use crate::copies::Folders;
 use crate::several::Drives;
-use il_ports::{FileMedium, ToChange};
+use il_ports::{FileMedium, ToChange, ToRead};
 use std::alloc::{AllocError, Global};
 use std::fs::File;
 use std::rt::Files;
@@ -25,6 +25,26 @@ impl<R: Files<File = File> + Copy + Drop> Drives<FileMedium<SystemFile, SystemIm
     for SystemDrives<R> {
     fn drive(&mut self) -> FileMedium<SystemFile, SystemImages<R>, ToChange> {
         FileMedium::new(SystemImages::new(self.files))
+    }
+}
+
+/// Drives over the files of the system, which open their images only to read them.
+#[derive(Drop)]
+pub struct SystemReaders<R: Files> {
+    files: R,
+}
+
+impl<R: Files<File = File> + Copy + Drop> SystemReaders<R> {
+    /// Drives over the files that the runtime gives.
+    pub fn new(files: R) -> SystemReaders<R> {
+        SystemReaders { files }
+    }
+}
+
+impl<R: Files<File = File> + Copy + Drop> Drives<FileMedium<SystemFile, SystemImages<R>, ToRead>>
+    for SystemReaders<R> {
+    fn drive(&mut self) -> FileMedium<SystemFile, SystemImages<R>, ToRead> {
+        FileMedium::to_read(SystemImages::new(self.files))
     }
 }
 

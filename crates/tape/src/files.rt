@@ -1,19 +1,19 @@
 ghost use Rattle.std.specs.Prelude.{◌≡◌};
+ghost use Rattle.tape.specs.Images.{sight};
 ghost use Rattle.tape.specs.Files.{FileIsRead, ReadsNamedFile};
 ghost use Rattle.tape.specs.Names.{name_spelt};
 ghost use Rattle.tape_jobs.specs.Reading.{HasRoomForFile};
-ghost use Rattle.tape.specs.Several.{written};
+ghost use Rattle.tape_says.specs.Outputs.{written};
 
 use crate::images::{Returned, work_on_image};
-use crate::messages::{no_memory, refuse_name, write_file_ending};
 use crate::names::name_spelt;
 use crate::several::Drives;
-use exits::BAD_WORDS;
 use il_ports::{Medium, Sink};
 use il_script::Page;
 use lif_dir::Name;
 use std::alloc::Global;
 use tape_jobs::{Part, Reading, page_for_file};
+use tape_says::{no_memory, refuse_name, write_file_ending};
 
 /// Reads the file of an image whose name a text spells, and says the exit status.
 fn read_named<M: Medium + Drop, K: Sink + Drop, E: Sink>(
@@ -29,7 +29,7 @@ fn read_named<M: Medium + Drop, K: Sink + Drop, E: Sink>(
 ) -> (u8, K)
     requires empty { (M.view drive).record_count ≡ 0 }
     requires page { HasRoomForFile page }
-    ensures { FileIsRead M.view part image.now file.now text.now result.0
+    ensures { FileIsRead (sight M.view M.refuses) part image.now file.now text.now result.0
         (written (K.written out) (K.faults out) (E.written error.old) (E.faults error.old))
         (written (K.written result.1) (K.faults result.1) (E.written error.new) (E.faults error.new)) }
 {
@@ -56,13 +56,12 @@ pub fn read_file<M: Medium + Drop, D: Drives<M>, K: Sink + Drop, E: Sink>(
     out: K,
     error: &mut E,
 ) -> (u8, K)
-    ensures { ReadsNamedFile M.view part image.now (name_spelt text.now) text.now result.0
+    ensures { ReadsNamedFile (sight M.view M.refuses) part image.now (name_spelt text.now) text.now result.0
         (written (K.written out) (K.faults out) (E.written error.old) (E.faults error.old))
         (written (K.written result.1) (K.faults result.1) (E.written error.new) (E.faults error.new)) }
 {
     let Some(file) = name_spelt(text) else {
-        refuse_name(error, text);
-        return (BAD_WORDS, out);
+        return (refuse_name(error, text), out);
     };
     match page_for_file(alloc) {
         Ok(page) => read_named(

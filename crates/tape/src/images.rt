@@ -1,13 +1,13 @@
-ghost use Rattle.std.specs.Prelude.{◌≡◌};
+ghost use Rattle.std.specs.Prelude.{◌≡◌, None};
 ghost use Rattle.lif_model.specs.Shelf.{IsSize};
 ghost use Rattle.tape.specs.Images.{DoneOrNot, JobEnds, WorksOnTape};
 
-use crate::ending::Ending;
 use crate::hosted::Hosted;
 use il_host::{Rig, with_host};
 use il_ports::{Inserted, Medium, New};
 use std::alloc::Global;
 use tape_jobs::{VolumeJob, Went};
+use tape_says::Ending;
 
 /// What is returned of a job on one image.
 #[derive(Drop)]
@@ -60,7 +60,8 @@ pub fn work_on_image<M: Medium + Drop, J: VolumeJob + Drop>(
 ) -> (Ending, Returned<M, J>)
     requires empty { (M.view medium).record_count ≡ 0 }
     requires asks { J.asks job }
-    ensures { JobEnds (J.does job result.1.job) (J.leaves job) (result.1.job ≡ job) result.0 name.entry.now
+    ensures { JobEnds (J.does job result.1.job) (J.leaves job) (result.1.job ≡ job)
+        (M.refuses medium result.1.medium name.entry.now None) result.0 name.entry.now
         (M.view medium) (M.view result.1.medium) }
 {
     match medium.insert(name, New::No) {

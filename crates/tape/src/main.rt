@@ -3,24 +3,27 @@
 #![tactic(auto)]
 
 mod copies;
-mod copy_messages;
+mod diff;
 mod drives;
-mod ending;
 mod files;
 mod hosted;
 mod images;
-mod messages;
 mod mounted;
 mod names;
 mod performing;
 mod several;
+mod showing;
+mod whole;
+mod why;
 
-use drives::{SystemDrives, SystemFolders};
+use drives::{SystemDrives, SystemFolders, SystemReaders};
 use exits::exit;
 use il_ports::StdSink;
 use performing::perform;
+use std::io::IsTerminal;
 use std::process::ExitCode;
 use std::{env, io};
+use tape_jobs::Progress;
 
 /// The arguments after the program's name.
 fn words_of(rt: &HostRuntime) -> io::Result<Vec<String>> {
@@ -31,13 +34,19 @@ fn main(rt: HostRuntime) -> ExitCode {
     let mut error = StdSink::new(rt.stderr());
     let out = StdSink::new(io::writer(&rt));
     let mut drives = SystemDrives::new(&rt);
+    let mut readers = SystemReaders::new(&rt);
     let mut folders = SystemFolders::new(&rt);
+    let progress = Progress {
+        terminal: rt.stderr().is_terminal().then(|| StdSink::new(rt.stderr())),
+    };
     let words = words_of(&rt);
     let (status, _) = perform(
         rt.alloc(),
         words,
         &mut drives,
+        &mut readers,
         &mut folders,
+        progress,
         out,
         &mut error,
     );

@@ -24,7 +24,7 @@ pub fn name_spelt(text: &str) -> Option<Name>
 /// The names that texts spell, if each of them spells one.
 pub fn names_spelt<'a>(alloc: Global, texts: &[&'a str]) -> Result<Vec<Name>, NoNames<'a>>
     ensures read { IfOk result (λ names. names_spelt (map (λ text. text.now) texts.now) ≡ Some names.items) }
-    ensures refused { IsRefusedName (names_spelt (map (λ text. text.now) texts.now)) result }
+    ensures refused { IsRefusedName (map (λ text. text.now) texts.now) result }
 {
     let Ok(mut names) = Vec::with_capacity(alloc, texts.len()) else {
         return Err(NoNames::OutOfMemory);

@@ -1,33 +1,27 @@
 ghost use Rattle.std.specs.Prelude.{◌≡◌, IfErr, IfOk, Some, map, string_bytes};
 ghost use Rattle.std.specs.IoError.{error_kind};
 ghost use Rattle.exits.specs.Statuses.{IsUnreadStatus};
+ghost use Rattle.tape.specs.Images.{sight};
 ghost use Rattle.tape_words.specs.Asked.{job_asked, arguments_in};
-ghost use Rattle.tape.specs.Performing.{Explains, PerformsAsked, Prints};
-ghost use Rattle.tape.specs.Several.{written};
+ghost use Rattle.tape_says.specs.Messages.{WritesMessage, memory_line, unread_line};
+ghost use Rattle.tape_says.specs.Outputs.{written};
+ghost use Rattle.tape.specs.Performing.{Explains, PerformsAsked};
+ghost use Rattle.tape.specs.Shown.{map_style};
 
 use crate::copies::{Folders, copy_files};
+use crate::diff::compare_images;
 use crate::files::read_file;
-use crate::messages::{no_memory, output_lost, write_message};
 use crate::several::{Drives, dir_images};
+use crate::showing::show_image;
+use crate::why::why_image;
 use exits::{BAD_WORDS, unread_status};
-use il_ports::{Medium, Sink, write_all};
+use il_ports::{Medium, MemoryMedium, Sink};
 use std::alloc::{AllocError, Global};
 use std::io;
 use tape_folder::Folder;
-use tape_jobs::Part;
+use tape_jobs::{Part, Progress, Style};
+use tape_says::{no_memory, print, write_message, write_text};
 use tape_words::{Job, NotRead, Topic, VERSION_TEXT, help_text, job_of, missing, parse};
-
-/// Writes a text to standard output, and says the exit status.
-fn print<K: Sink, E: Sink>(text: &str, out: &mut K, error: &mut E) -> u8
-    ensures { Prints text.now result
-        (written (K.written out.old) (K.faults out.old) (E.written error.old) (E.faults error.old))
-        (written (K.written out.new) (K.faults out.new) (E.written error.new) (E.faults error.new)) }
-{
-    match write_all(out, text.as_bytes()) {
-        Ok(()) => 0,
-        Err(_) => output_lost(error),
-    }
-}
 
 /// Writes the help of the program or of a job, and says the exit status.
 fn explain<K: Sink, E: Sink>(alloc: Global, topic: Option<Topic>, out: &mut K, error: &mut E) -> u8
@@ -36,35 +30,71 @@ fn explain<K: Sink, E: Sink>(alloc: Global, topic: Option<Topic>, out: &mut K, e
         (written (K.written out.new) (K.faults out.new) (E.written error.new) (E.faults error.new)) }
 {
     match help_text(alloc, topic) {
-        Ok(text) => print(&text, out, error),
+        Ok(text) => print(0, text.as_bytes(), out, error),
         Err(_) => no_memory(error),
     }
 }
 
 /// Writes why arguments ask for no job, and says the exit status.
 fn refuse<E: Sink>(text: Result<String, AllocError>, error: &mut E) -> u8
-    ensures ok { IfOk text (λ t. result ≡ 2) }
-    ensures err { IfErr text (λ e. result ≡ 7) }
+    ensures ok { IfOk text (λ t. (result ≡ 2) × WritesMessage (string_bytes t)
+        (E.written error.old) (E.written error.new) (E.faults error.old) (E.faults error.new)) }
+    ensures err { IfErr text (λ e. (result ≡ 7) × WritesMessage memory_line
+        (E.written error.old) (E.written error.new) (E.faults error.old) (E.faults error.new)) }
 {
     match text {
         Ok(text) => {
-            let _ = write_all(error, text.as_bytes());
+            write_text(error, &text);
             BAD_WORDS
         }
         Err(_) => no_memory(error),
     }
 }
 
+/// Writes that arguments could not be read, and says the exit status.
+fn refuse_unread<E: Sink>(unread: &io::Error, error: &mut E) -> u8
+    ensures status { IsUnreadStatus (error_kind unread.now) result }
+    ensures says { WritesMessage unread_line
+        (E.written error.old) (E.written error.new) (E.faults error.old) (E.faults error.new) }
+{
+    write_message(
+        error,
+        "an argument is not UTF-8, or there is not enough memory",
+    );
+    unread_status(unread)
+}
+
+/// How `map` shows a volume: as an SVG file or not.
+fn map_style(svg: bool) -> Style<'static>
+    ensures { result ≡ map_style svg }
+{
+    if svg { Style::Picture } else { Style::Map }
+}
+
 /// Does the job, and says the exit status.
-fn do_job<M: Medium + Drop, D: Drives<M>, F: Folder + Drop, G: Folders<F>, K: Sink + Drop, E: Sink>(
+fn do_job<
+    M: Medium + Drop,
+    D: Drives<M>,
+    N: Medium + Drop,
+    R: Drives<N>,
+    F: Folder + Drop,
+    G: Folders<F>,
+    P: Sink + Drop,
+    K: Sink + Drop,
+    E: Sink,
+>(
     alloc: Global,
     job: Job<'_>,
     drives: &mut D,
+    readers: &mut R,
     folders: &mut G,
+    progress: Progress<P>,
     out: K,
     error: &mut E,
 ) -> (u8, K)
-    ensures { PerformsAsked M.view F.view (Some (job_asked job.entry)) result.0
+    ensures { PerformsAsked (sight M.view M.refuses) (sight N.view N.refuses)
+        (sight ⟦<MemoryMedium as Medium>⟧.view ⟦<MemoryMedium as Medium>⟧.refuses)
+        F.view (Some (job_asked job.entry)) result.0
         (written (K.written out) (K.faults out) (E.written error.old) (E.faults error.old))
         (written (K.written result.1) (K.faults result.1) (E.written error.new) (E.faults error.new)) }
 {
@@ -76,7 +106,9 @@ fn do_job<M: Medium + Drop, D: Drives<M>, F: Folder + Drop, G: Folders<F>, K: Si
             folder,
             names,
         } => (
-            copy_files(alloc, drives, folders, image, folder, names, error),
+            copy_files(
+                alloc, drives, folders, progress, image, folder, names, error,
+            ),
             out,
         ),
         Job::Get { image, name } => {
@@ -85,8 +117,15 @@ fn do_job<M: Medium + Drop, D: Drives<M>, F: Folder + Drop, G: Folders<F>, K: Si
         Job::Raw { image, name } => {
             read_file(alloc, drives, Part::Bytes, image, name, out, error)
         }
+        Job::Free { image } => show_image(alloc, drives, Style::Free, image, out, error),
+        Job::Map { svg, image } => show_image(alloc, drives, map_style(svg), image, out, error),
+        Job::Why { image } => (why_image(alloc, readers, image, &mut out, error), out),
+        Job::Diff { image, other } => (
+            compare_images(alloc, readers, image, other, &mut out, error),
+            out,
+        ),
         Job::Help { topic } => (explain(alloc, topic, &mut out, error), out),
-        Job::Version => (print(VERSION_TEXT, &mut out, error), out),
+        Job::Version => (print(0, VERSION_TEXT.as_bytes(), &mut out, error), out),
     }
 }
 
@@ -94,25 +133,32 @@ fn do_job<M: Medium + Drop, D: Drives<M>, F: Folder + Drop, G: Folders<F>, K: Si
 fn perform_words<
     M: Medium + Drop,
     D: Drives<M>,
+    N: Medium + Drop,
+    R: Drives<N>,
     F: Folder + Drop,
     G: Folders<F>,
+    P: Sink + Drop,
     K: Sink + Drop,
     E: Sink,
 >(
     alloc: Global,
     words: &[String],
     drives: &mut D,
+    readers: &mut R,
     folders: &mut G,
+    progress: Progress<P>,
     out: K,
     error: &mut E,
 ) -> (u8, K)
-    ensures { PerformsAsked M.view F.view (arguments_in (map string_bytes words.now)) result.0
+    ensures { PerformsAsked (sight M.view M.refuses) (sight N.view N.refuses)
+        (sight ⟦<MemoryMedium as Medium>⟧.view ⟦<MemoryMedium as Medium>⟧.refuses)
+        F.view (arguments_in (map string_bytes words.now)) result.0
         (written (K.written out) (K.faults out) (E.written error.old) (E.faults error.old))
         (written (K.written result.1) (K.faults result.1) (E.written error.new) (E.faults error.new)) }
 {
     match parse(alloc, words) {
         Ok(matches) => match job_of(&matches) {
-            Some(job) => do_job(alloc, job, drives, folders, out, error),
+            Some(job) => do_job(alloc, job, drives, readers, folders, progress, out, error),
             None => (refuse(missing(alloc, &matches), error), out),
         },
         Err(NotRead::Refused(text)) => (refuse(Ok(text), error), out),
@@ -120,37 +166,43 @@ fn perform_words<
     }
 }
 
-/// The program over standard output and standard error, over the drives that it inserts images in, and over the folders
-/// that it copies files into. It returns the exit status, and standard output.
+/// The program over standard output and standard error, over the drives that it inserts images in, those that only read
+/// them, and the folders that it copies files into. `progress` is told which file is copied. It returns the exit status,
+/// and standard output.
 pub fn perform<
     M: Medium + Drop,
     D: Drives<M>,
+    N: Medium + Drop,
+    R: Drives<N>,
     F: Folder + Drop,
     G: Folders<F>,
+    P: Sink + Drop,
     K: Sink + Drop,
     E: Sink,
 >(
     alloc: Global,
     words: io::Result<Vec<String>>,
     drives: &mut D,
+    readers: &mut R,
     folders: &mut G,
+    progress: Progress<P>,
     out: K,
     error: &mut E,
 ) -> (u8, K)
-    ensures unread { IfErr words (λ e. IsUnreadStatus (error_kind e) result.0 × (result.1 ≡ out)) }
+    ensures unread { IfErr words (λ e. IsUnreadStatus (error_kind e) result.0 × (result.1 ≡ out)
+        × WritesMessage unread_line
+        (E.written error.old) (E.written error.new) (E.faults error.old) (E.faults error.new)) }
     ensures asked { IfOk words (λ list.
-        PerformsAsked M.view F.view (arguments_in (map string_bytes list.items)) result.0
+        PerformsAsked (sight M.view M.refuses) (sight N.view N.refuses)
+        (sight ⟦<MemoryMedium as Medium>⟧.view ⟦<MemoryMedium as Medium>⟧.refuses)
+        F.view (arguments_in (map string_bytes list.items)) result.0
         (written (K.written out) (K.faults out) (E.written error.old) (E.faults error.old))
         (written (K.written result.1) (K.faults result.1) (E.written error.new) (E.faults error.new))) }
 {
     match words {
-        Ok(words) => perform_words(alloc, &words, drives, folders, out, error),
-        Err(unread) => {
-            write_message(
-                error,
-                "an argument is not UTF-8, or there is not enough memory",
-            );
-            (unread_status(&unread), out)
-        }
+        Ok(words) => perform_words(
+            alloc, &words, drives, readers, folders, progress, out, error,
+        ),
+        Err(unread) => (refuse_unread(&unread, error), out),
     }
 }

@@ -1,13 +1,14 @@
 ghost use Rattle.std.specs.Prelude.{◌≡◌, ◌==◌, ◌||◌, ◌&&◌, if◌then◌else◌, map};
-ghost use Rattle.tape.specs.Endings.{is_last, is_done as done};
-ghost use Rattle.tape.specs.Several.{DirDone, DirsEnd, ImageListed, IsStyleFor, written};
+ghost use Rattle.tape.specs.Images.{sight};
+ghost use Rattle.tape_says.specs.Endings.{is_last, is_done as done};
+ghost use Rattle.tape_says.specs.Outputs.{written};
+ghost use Rattle.tape.specs.Several.{DirDone, DirsEnd, ImageListed, IsStyleFor};
 
-use crate::ending::Ending;
 use crate::images::{Returned, work_on_image};
-use crate::messages::{output_lost, write_ending};
 use il_ports::{Medium, Sink, write_all};
 use std::alloc::Global;
 use tape_jobs::{Listing, Style};
+use tape_says::{Ending, output_lost, write_ending};
 use tape_text::first_csv_row;
 
 /// Where drives come from: each image is inserted in a drive of its own.
@@ -44,7 +45,7 @@ fn dir_one<M: Medium + Drop, K: Sink + Drop, E: Sink>(
     error: &mut E,
 ) -> (Ending, K)
     requires empty { (M.view drive).record_count ≡ 0 }
-    ensures { ImageListed M.view csv count all name.now result.0
+    ensures { ImageListed (sight M.view M.refuses) csv count all name.now result.0
         (written (K.written out) (K.faults out) (E.written error.old) (E.faults error.old))
         (written (K.written result.1) (K.faults result.1) (E.written error.new) (E.faults error.new)) }
 {
@@ -86,7 +87,7 @@ fn dir_each<M: Medium + Drop, D: Drives<M>, K: Sink + Drop, E: Sink>(
     out: K,
     error: &mut E,
 ) -> (u8, K)
-    ensures { DirsEnd M.view csv all (map (λ name. name.now) names.now) result.0
+    ensures { DirsEnd (sight M.view M.refuses) csv all (map (λ name. name.now) names.now) result.0
         (written (K.written out) (K.faults out) (E.written error.old) (E.faults error.old))
         (written (K.written result.1) (K.faults result.1) (E.written error.new) (E.faults error.new)) }
 {
@@ -122,7 +123,7 @@ pub fn dir_images<M: Medium + Drop, D: Drives<M>, K: Sink + Drop, E: Sink>(
     out: K,
     error: &mut E,
 ) -> (u8, K)
-    ensures { DirDone M.view csv all (map (λ name. name.now) names.now) result.0
+    ensures { DirDone (sight M.view M.refuses) csv all (map (λ name. name.now) names.now) result.0
         (written (K.written out) (K.faults out) (E.written error.old) (E.faults error.old))
         (written (K.written result.1) (K.faults result.1) (E.written error.new) (E.faults error.new)) }
 {

@@ -1,7 +1,7 @@
 -- A file that is kept in a folder: it is written there, unless the folder has something of that name.
 use Rattle.std.specs.Prelude.{◌≡◌, ◌≢◌, ◌⊎◌, ◌≤◌, ◌<◌, ℕ, List, [], true, false, Option, Some, None, Result, Ok, Err, is_some}
 use Rattle.lif_model.specs.Causes.{Rose}
-use Rattle.tape_folder.specs.Folders.{FolderView, ShowsFiles, file_named, is_hidden, part_name, Nothing}
+use Rattle.tape_folder.specs.Folders.{FolderView, IsUnusedName, IsUsedName, SameFolder, ShowsFiles, file_in_folder, is_hidden, part_name, Nothing}
 use Rattle.tape_folder.specs.declared.keeping.Kept.{Kept}
 use Rattle.tape_folder.specs.declared.keeping.Kept.TheVariants as kept
 
@@ -9,9 +9,9 @@ use Rattle.tape_folder.specs.declared.keeping.Kept.TheVariants as kept
 abbrev pub part_numbers : ℕ
 part_numbers = 1000
 
--- each of the first n numbers is that of a file
+-- for each of the first n numbers, something has the name of the part file
 abbrev pub AreTaken : ℕ → FolderView → Type 0
-AreTaken n v = (number : ℕ) → number < n → ShowsFiles v → is_some (file_named (part_name number) v.files) ≡ true
+AreTaken n v = (number : ℕ) → number < n → ShowsFiles v → IsUsedName (part_name number) v
 
 -- no part file could be made: a call failed, or no number is free
 abbrev pub WasUnable : FolderView → FolderView → Type 0
@@ -19,8 +19,9 @@ WasUnable v w = Rose v.failures w.failures ⊎ AreTaken part_numbers v
 
 -- What some calls have done. A file is as it was, or as they have made it, and so is what a stop may leave.
 pub record Steps (makes : List ℕ → Option (List ℕ) → Type 0) (v w : FolderView) : Type 0 where
+  pub folder : SameFolder v w
   pub known : is_some w.files ≡ is_some v.files
-  pub files : (name : List ℕ) → (file_named name w.files ≡ file_named name v.files) ⊎ makes name (file_named name w.files)
+  pub files : (name : List ℕ) → (file_in_folder name w.files ≡ file_in_folder name v.files) ⊎ makes name (file_in_folder name w.files)
   pub leaves : (name : List ℕ) (content : Option (List ℕ)) → w.leaves name content → v.leaves name content ⊎ makes name content
   pub left : (name : List ℕ) (content : Option (List ℕ)) → w.left name content → v.left name content ⊎ (v.leaves name content ⊎ makes name content)
   pub failures : v.failures ≤ w.failures
@@ -34,7 +35,7 @@ OfPart v name content = v.part ≡ Some name
 pub record IsPartOpened (v w : FolderView) : Type 0 where
   pub part : List ℕ
   pub is_open : w.part ≡ Some part
-  pub free : file_named part v.files ≡ None
+  pub free : IsUnusedName part v
   pub steps : Steps (OfPart w) v w
   pub empty : ShowsFiles w → w.written ≡ Some []
 
@@ -59,7 +60,7 @@ pub record PartFills {T E : Type 0} (bytes : List ℕ) (v w : FolderView) (answe
 
 -- the name of the part is gone, unless that failed
 abbrev pub IsGone : FolderView → FolderView → Type 0
-IsGone v w = Rose v.unremoved w.unremoved ⊎ ((part : List ℕ) → v.part ≡ Some part → file_named part w.files ≡ None)
+IsGone v w = Rose v.unremoved w.unremoved ⊎ ((part : List ℕ) → v.part ≡ Some part → file_in_folder part w.files ≡ None)
 
 pub record PartCloses (v w : FolderView) : Type 0 where
   pub closed : w.part ≡ None
@@ -72,9 +73,9 @@ EndMakes name text kept.Written other content = (other ≡ name) × (content ≡
 EndMakes name text _ other content = ⊥
 
 abbrev pub PartEndsAs : List ℕ → Option (List ℕ) → FolderView → FolderView → Kept → Type 0
-PartEndsAs name text v w kept.Written = ShowsFiles v → file_named name w.files ≡ text
+PartEndsAs name text v w kept.Written = ShowsFiles v → file_in_folder name w.files ≡ text
 PartEndsAs name text v w kept.WasThere = ⊥
-PartEndsAs name text v w kept.Differs = Unit {0}
+PartEndsAs name text v w kept.Differs = ShowsFiles v → IsUsedName name v
 PartEndsAs name text v w kept.NotWritten = Rose v.failures w.failures
 
 -- The part file was given its name, or was given up. None is open.
@@ -92,10 +93,11 @@ pub record PartIsUsed (name bytes : List ℕ) (v w : FolderView) (answer : Kept)
 
 -- the files by the answer, if contracts can see them
 abbrev pub KeptIs : List ℕ → List ℕ → FolderView → FolderView → Kept → Type 0
-KeptIs name bytes v w kept.Written = ShowsFiles v → (file_named name v.files ≡ None) × (file_named name w.files ≡ Some bytes)
-KeptIs name bytes v w kept.WasThere = ShowsFiles v → (file_named name v.files ≡ Some bytes) × (file_named name w.files ≡ Some bytes)
-KeptIs name bytes v w kept.Differs = ShowsFiles v → (file_named name v.files ≢ Some bytes) × (file_named name w.files ≡ file_named name v.files)
-KeptIs name bytes v w kept.NotWritten = (file_named name w.files ≡ file_named name v.files) × WasUnable v w
+KeptIs name bytes v w kept.Written = ShowsFiles v → IsUnusedName name v × (file_in_folder name w.files ≡ Some bytes)
+KeptIs name bytes v w kept.WasThere = ShowsFiles v → (file_in_folder name v.files ≡ Some bytes) × (file_in_folder name w.files ≡ Some bytes)
+KeptIs name bytes v w kept.Differs = ShowsFiles v
+    → IsUsedName name v × (file_in_folder name v.files ≢ Some bytes) × (file_in_folder name w.files ≡ file_in_folder name v.files)
+KeptIs name bytes v w kept.NotWritten = (file_in_folder name w.files ≡ file_in_folder name v.files) × WasUnable v w
 
 -- what a stop may leave that it could not leave before
 abbrev pub KeptMakes : List ℕ → List ℕ → Kept → List ℕ → Option (List ℕ) → Type 0
@@ -104,14 +106,15 @@ KeptMakes name bytes _ other content = ⊥
 
 -- What was done to keep a file of these bytes in a folder under that name.
 pub record FileKept (name bytes : List ℕ) (answer : Kept) (v w : FolderView) : Type 0 where
+  pub folder : SameFolder v w
   -- no part file is open
   pub closed : w.part ≡ None
   pub known : is_some w.files ≡ is_some v.files
   pub answer_is : KeptIs name bytes v w answer
   -- each other file that is not hidden is as before
-  pub others : (other : List ℕ) → (file_named other w.files ≡ file_named other v.files) ⊎ ((other ≡ name) ⊎ (is_hidden other ≡ true))
+  pub others : (other : List ℕ) → (file_in_folder other w.files ≡ file_in_folder other v.files) ⊎ ((other ≡ name) ⊎ (is_hidden other ≡ true))
   -- a part file was not removed, or the hidden files are as before
-  pub parts : Rose v.unremoved w.unremoved ⊎ ((other : List ℕ) → is_hidden other ≡ true → file_named other w.files ≡ file_named other v.files)
+  pub parts : Rose v.unremoved w.unremoved ⊎ ((other : List ℕ) → is_hidden other ≡ true → file_in_folder other w.files ≡ file_in_folder other v.files)
   -- a stop may leave what it could leave before, or the whole file if it was written
   pub leaves : (other : List ℕ) (content : Option (List ℕ)) → ShowsFiles v → is_hidden other ≡ false → w.leaves other content → v.leaves other content ⊎ KeptMakes name bytes answer other content
   pub left : (other : List ℕ) (content : Option (List ℕ)) → ShowsFiles v → is_hidden other ≡ false → w.left other content → v.left other content ⊎ KeptMakes name bytes answer other content

@@ -7,7 +7,8 @@ use std::io;
 pub trait Folder {
     ghost use Rattle.std.specs.Prelude.{◌≡◌, None, is_some, true, false};
     ghost use Rattle.std.specs.IoError.{error_kind};
-    ghost use Rattle.tape_folder.specs.Folders.{FolderView, IsFolder, is_hidden, file_named};
+    ghost use Rattle.tape_folder.specs.Folders.{FolderView, IsFolder, IsUnusedName, ShowsFiles};
+    ghost use Rattle.tape_folder.specs.Folders.{file_in_folder, is_hidden};
     ghost use Rattle.tape_folder.specs.Folders.{Prepared, FolderLooked, Compared};
     ghost use Rattle.tape_folder.specs.Folders.{PartMade, PartWritten, PartSynced, PartLinked, PartRenamed};
     ghost use Rattle.tape_folder.specs.Folders.{PartRemoved, FolderSettled};
@@ -22,8 +23,10 @@ pub trait Folder {
     fn look(&mut self, name: &str) -> io::Result<Look>
         ensures { FolderLooked name.now (view self.old) (view self.new) result };
 
-    /// Says whether the file of that name has exactly these bytes. If it has, the file is synced before the answer.
+    /// Says whether the file of that name, which a look has found, has exactly these bytes. If it has, the file is
+    /// synced before the answer.
     fn holds(&mut self, name: &str, bytes: &[u8]) -> io::Result<bool>
+        requires { ShowsFiles (view self.old) → is_some (file_in_folder name.now (view self.old).files) ≡ true }
         ensures { Compared name.now bytes.now (view self.old) (view self.new) result };
 
     /// Makes the part file of that number, without a byte, and opens it. If something has its name, this is an error of
@@ -55,7 +58,7 @@ pub trait Folder {
         requires made { is_some (view self.old).part ≡ true }
         requires synced { (view self.old).on_disk ≡ true }
         requires plain { is_hidden name.now ≡ false }
-        requires free { file_named name.now (view self.old).files ≡ None }
+        requires free { IsUnusedName name.now (view self.old) }
         ensures { PartRenamed name.now (view self.old) (view self.new) result };
 
     /// Closes the part file and removes its name. After an error the part file is closed too.

@@ -1,6 +1,6 @@
 ghost use Rattle.std.specs.Prelude.{◌≡◌, ◌<◌, None, is_some, true, false, length};
 ghost use Rattle.std.specs.IoError.{error_kind};
-ghost use Rattle.tape_folder.specs.Folders.{is_hidden, is_taken, file_named};
+ghost use Rattle.tape_folder.specs.Folders.{IsUnusedName, ShowsFiles, file_in_folder, is_hidden, is_taken};
 ghost use Rattle.tape_folder.specs.Keeping.{PartOpens, PartFills, PartCloses, PartEnds, PartIsUsed, FileKept};
 
 use crate::folder::Folder;
@@ -137,7 +137,7 @@ fn use_part<F: Folder>(folder: &mut F, name: &str, bytes: &[u8]) -> Kept
 fn write_file<F: Folder>(folder: &mut F, name: &str, bytes: &[u8]) -> Kept
     requires closed { (F.view folder.old).part ≡ None }
     requires plain { is_hidden name.now ≡ false }
-    requires free { file_named name.now (F.view folder.old).files ≡ None }
+    requires free { IsUnusedName name.now (F.view folder.old) }
     ensures { FileKept name.now bytes.now result (F.view folder.old) (F.view folder.new) }
 {
     match open_part(folder) {
@@ -149,6 +149,8 @@ fn write_file<F: Folder>(folder: &mut F, name: &str, bytes: &[u8]) -> Kept
 /// Compares the file of that name with these bytes.
 fn compare<F: Folder>(folder: &mut F, name: &str, bytes: &[u8]) -> Kept
     requires closed { (F.view folder.old).part ≡ None }
+    requires there { ShowsFiles (F.view folder.old)
+        → is_some (file_in_folder name.now (F.view folder.old).files) ≡ true }
     ensures { FileKept name.now bytes.now result (F.view folder.old) (F.view folder.new) }
 {
     match folder.holds(name, bytes) {

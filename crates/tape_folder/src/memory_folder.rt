@@ -4,7 +4,7 @@ ghost use Rattle.tape_folder.specs.Folders.{part_name};
 
 use crate::folder::Folder;
 use crate::part_name::push_part_name;
-use crate::shelf::{add, copy_of, find, remove};
+use crate::shelf::{add, copy_of, find, is_one_of, remove};
 use il_ports::Look;
 use std::alloc::{AllocError, Global};
 use std::io::{self, ErrorKind};
@@ -30,13 +30,16 @@ fn listed(fails: &[(u64, ErrorKind)], call: u64) -> Option<ErrorKind>
     None
 }
 
-/// A folder in memory. Of several files with one name, the first counts. Its calls are counted from 1. A listed call
-/// fails with the kind that `fails` gives, by the first entry of its number. If that is `AlreadyExists`, which says that
-/// a name is taken, the call fails with `Other`.
+/// A folder in memory, which is always there. Of several files with one name, the first counts. Its calls are counted
+/// from 1. A listed call fails with the kind that `fails` gives, by the first entry of its number. If that is
+/// `AlreadyExists`, which says that a name is taken, the call fails with `Other`.
 #[derive(Drop)]
 pub struct MemoryFolder {
     alloc: Global,
+    path: String,
     files: Vec<(String, Vec<u8>)>,
+    /// The names of what is no file.
+    others: Vec<String>,
     /// The files when the folder was last settled, and at first.
     on_disk: Vec<(String, Vec<u8>)>,
     first: Vec<(String, Vec<u8>)>,
@@ -56,14 +59,19 @@ impl MemoryFolder {
     ghost use Rattle.lif_model.specs.Causes.{HasCause, Rose, next_count};
     ghost use Rattle.il_ports.specs.Drive.{images_of};
     ghost use Rattle.tape_folder.specs.HiddenFolders.{part_named};
-    ghost use Rattle.tape_folder.specs.MemoryFolders.{AsksAsListed, FilesBut};
+    ghost use Rattle.tape_folder.specs.MemoryFolders.{AsksAsListed, FilesBut, IsFoundInMemory};
 
-    /// A folder with these files, all of them on the disk.
+    /// A folder of that path with these files, all of them on the disk, and with something that is no file under each
+    /// of the names `others`.
     pub fn new(
         alloc: Global,
+        path: &str,
         files: Vec<(String, Vec<u8>)>,
+        others: Vec<String>,
         fails: Vec<(u64, ErrorKind)>,
     ) -> Result<MemoryFolder, AllocError>
+        ensures path { IfOk result (λ f. string_bytes f.path ≡ path.now) }
+        ensures others { IfOk result (λ f. f.others ≡ others) }
         ensures files { IfOk result (λ f. f.files ≡ files) }
         ensures on_disk { IfOk result (λ f. images_of f.on_disk.items ≡ images_of files.items) }
         ensures first { IfOk result (λ f. images_of f.first.items ≡ images_of files.items) }
@@ -75,6 +83,8 @@ impl MemoryFolder {
     {
         Ok(MemoryFolder {
             alloc,
+            path: String::from_str(alloc, path)?,
+            others,
             on_disk: copy_of(alloc, &files)?,
             first: copy_of(alloc, &files)?,
             files,
@@ -100,6 +110,22 @@ impl MemoryFolder {
         ensures { result ≡ self.now.calls }
     {
         self.calls
+    }
+
+    /// What has that name.
+    fn found(&self, name: &str) -> Look
+        ensures { IsFoundInMemory name.now (images_of self.now.files.items) self.now.others.items result }
+    {
+        match find(&self.files, name) {
+            Some(_) => Look::File,
+            None => {
+                if is_one_of(&self.others, name) {
+                    Look::Other
+                } else {
+                    Look::Missing
+                }
+            }
+        }
     }
 
     /// The name of the open part file, unless there is no memory for it.
@@ -152,14 +178,17 @@ impl MemoryFolder {
 }
 
 impl Folder for MemoryFolder {
+    ghost use Rattle.std.specs.Prelude.{string_bytes};
     ghost use Rattle.il_ports.specs.Drive.{images_of};
     ghost use Rattle.tape_folder.specs.MemoryFolders.{memory_folder, memory_is_folder};
 
-    ghost view = { λ f. memory_folder (images_of f.files.items) (images_of f.on_disk.items) (images_of f.first.items)
+    ghost view = { λ f. memory_folder (string_bytes f.path) f.others.items (images_of f.files.items)
+        (images_of f.on_disk.items) (images_of f.first.items)
         f.part f.written.items f.is_synced f.failures f.unremoved };
 
-    ghost is_folder = { λ f. memory_is_folder (images_of f.files.items) (images_of f.on_disk.items)
-        (images_of f.first.items) f.part f.written.items f.is_synced f.failures f.unremoved };
+    ghost is_folder = { λ f. memory_is_folder (string_bytes f.path) f.others.items (images_of f.files.items)
+        (images_of f.on_disk.items) (images_of f.first.items)
+        f.part f.written.items f.is_synced f.failures f.unremoved };
 
     fn prepare(&mut self) -> io::Result<()> {
         self.ask()
@@ -167,10 +196,7 @@ impl Folder for MemoryFolder {
 
     fn look(&mut self, name: &str) -> io::Result<Look> {
         self.ask()?;
-        match find(&self.files, name) {
-            Some(_) => Ok(Look::File),
-            None => Ok(Look::Missing),
-        }
+        Ok(self.found(name))
     }
 
     fn holds(&mut self, name: &str, bytes: &[u8]) -> io::Result<bool> {
@@ -186,8 +212,9 @@ impl Folder for MemoryFolder {
         let Ok(name) = name_of_part(self.alloc, number) else {
             return Err(self.failed(ErrorKind::OutOfMemory));
         };
-        if find(&self.files, &name).is_some() {
-            return Err(ErrorKind::AlreadyExists.into());
+        match self.found(&name) {
+            Look::Missing => {}
+            Look::File | Look::Other => return Err(ErrorKind::AlreadyExists.into()),
         }
         if add(self.alloc, &mut self.files, &name, &[]).is_err() {
             return Err(self.failed(ErrorKind::OutOfMemory));
@@ -215,8 +242,9 @@ impl Folder for MemoryFolder {
 
     fn link(&mut self, name: &str) -> io::Result<()> {
         self.ask()?;
-        if find(&self.files, name).is_some() {
-            return Err(ErrorKind::AlreadyExists.into());
+        match self.found(name) {
+            Look::Missing => {}
+            Look::File | Look::Other => return Err(ErrorKind::AlreadyExists.into()),
         }
         match add(self.alloc, &mut self.files, name, &self.written) {
             Ok(()) => Ok(()),

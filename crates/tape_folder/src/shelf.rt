@@ -1,7 +1,7 @@
 ghost use Rattle.std.specs.Prelude.{◌≡◌, None, Some, MatchOption, OnOk, OnErr, IfOk};
 ghost use Rattle.lif_model.specs.Shelf.{image_of};
 ghost use Rattle.il_ports.specs.Drive.{images_of};
-ghost use Rattle.tape_folder.specs.MemoryFolders.{OtherFilesStay};
+ghost use Rattle.tape_folder.specs.MemoryFolders.{OtherFilesStay, is_one_of};
 
 use std::alloc::{AllocError, Global};
 
@@ -16,6 +16,18 @@ pub(crate) fn find<'a>(files: &'a [(String, Vec<u8>)], name: &str) -> Option<&'a
         }
     }
     None
+}
+
+/// Whether the name is one of these.
+pub(crate) fn is_one_of(names: &[String], name: &str) -> bool
+    ensures { result ≡ is_one_of names.now name.now }
+{
+    for one in names {
+        if one.as_str() == name {
+            return true;
+        }
+    }
+    false
 }
 
 /// Adds a file of that name, which no file has.

@@ -86,16 +86,20 @@ pub struct SystemFolder<R: Files + Drop> {
     part: Option<Part>,
     /// A call of `prepare` made the folder.
     is_new: bool,
+    /// A call of `prepare` made the folder, or found it.
+    is_made: bool,
 }
 
 impl<R: Files<File = File> + Drop> SystemFolder<R> {
     ghost use Rattle.std.specs.Prelude.{◌≡◌, None, IfOk};
+    ghost use Rattle.tape_folder.specs.Paths.{IsFolderPath};
 
     /// The folder of that path, which a call of `prepare` makes if there is none. All memory is taken here, if the
     /// names of files have at most 64 bytes.
     pub fn new(alloc: Global, files: R, path: &str) -> Result<SystemFolder<R>, AllocError>
         ensures hidden { IfOk result (λ f. (⟦<SystemFolder<R> as Folder>⟧.view f).files ≡ None) }
         ensures closed { IfOk result (λ f. (⟦<SystemFolder<R> as Folder>⟧.view f).part ≡ None) }
+        ensures path { IfOk result (λ f. IsFolderPath path.now (⟦<SystemFolder<R> as Folder>⟧.view f).path) }
     {
         let path = folder_path(path);
         let room = path.len().saturating_add(1 + LONGEST_NAME);
@@ -106,26 +110,31 @@ impl<R: Files<File = File> + Drop> SystemFolder<R> {
             file_path: String::with_capacity(alloc, room)?,
             part: None,
             is_new: false,
+            is_made: false,
         })
     }
 }
 
 impl<R: Files<File = File> + Drop> Folder for SystemFolder<R> {
+    ghost use Rattle.std.specs.Prelude.{string_bytes};
     ghost use Rattle.tape_folder.specs.HiddenFolders.{hidden_folder, hidden_is_folder};
     ghost use Rattle.tape_folder.specs.SystemFolders.{part_number_of, is_synced};
 
-    ghost view = { λ f. hidden_folder (part_number_of f.part) (is_synced f.part) };
+    ghost view = { λ f. hidden_folder (string_bytes f.path) f.is_made (part_number_of f.part) (is_synced f.part) };
 
-    ghost is_folder = { λ f. hidden_is_folder (part_number_of f.part) (is_synced f.part) };
+    ghost is_folder = { λ f. hidden_is_folder (string_bytes f.path) f.is_made (part_number_of f.part)
+        (is_synced f.part) };
 
     fn prepare(&mut self) -> io::Result<()> {
         match fs::create_dir(&self.files, self.path.as_str()) {
             Ok(()) => {
                 self.is_new = true;
+                self.is_made = true;
                 Ok(())
             }
             Err(error) if error.kind() == ErrorKind::AlreadyExists => {
                 if fs::metadata(&self.files, self.path.as_str())?.is_dir() {
+                    self.is_made = true;
                     Ok(())
                 } else {
                     Err(ErrorKind::NotADirectory.into())

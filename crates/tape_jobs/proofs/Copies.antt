@@ -1,18 +1,24 @@
 -- How copies of files add up.
 use Rattle.std.proofs.Common.{◌≡◌, ◌⊎◌, inl, inr, ⊎_elim, ◌≤◌, ◌++◌, ◌||◌, ◌∙◌, ℕ, Bool, true, false, List, [], ◌∷◌, Option, Some, None, refl, sym, ap, subst, arith}
-use Rattle.std.specs.Prelude.{◌<◌, ◌+◌, MatchOption, OnErr, Result, Ok, Err, is_ok, is_some, length, map, slice_get, take, if◌then◌else◌}
+use Rattle.std.specs.Prelude.{◌<◌, ◌+◌, ◌≢◌, MatchOption, OnErr, Result, Ok, Err, is_ok, is_some, length, map, slice_get, take, cond, if◌then◌else◌}
 use Rattle.std.proofs.lemmas.Grind.{flat_map-append}
+use Rattle.std.proofs.lemmas.List.Sums.{sum_by-append}
 use Rattle.std.proofs.lemmas.List.{append-nil, length-map, length-take, map-append, take_more}
 use Rattle.std.proofs.lemmas.Option.{slice_get_within, get_or_from_slice_get}
 use Rattle.lif_dir.specs.declared.entries.FileEntry.{FileEntry}
 use Rattle.lif_dir.specs.declared.entries.Slot.{Slot}
 use Rattle.tape_text.specs.Listing.{shown_files, shown_slot}
-use Rattle.std.specs.List.{flat_map}
+use Rattle.std.specs.List.{count_by, flat_map}
 use Rattle.lif_model.specs.Apply.{VolumeCommand, Dir, Fetch, apply, next_unless, refusal_of}
+use Rattle.lif_model.specs.Causes.{Rose}
 use Rattle.lif_model.specs.Finished.{IsFinished}
 use Rattle.lif_model.specs.Tape.{Tape}
-use Rattle.lif_model.specs.Volume.{Volume}
-use Rattle.lif_model.specs.Packing.{finished_volume_of}
+use Rattle.lif_model.specs.Redo.{settled}
+use Rattle.lif_model.specs.Commit.{SettlesAs}
+use Rattle.lif_model.specs.Volume.{Volume, volume_of}
+use Rattle.lif_model.specs.Packing.{finished_volume_of, has_mark}
+use Rattle.lif_model.proofs.Commit.{settles_self}
+use Rattle.tape_jobs.proofs.Settling.{settles_on, unmarked_on}
 use Rattle.lif_model.specs.declared.refusal.Refusal.{Refusal}
 use Rattle.il_ports.proofs.InsertFaults.{rose_within}
 use Rattle.il_ports.specs.Inserting.{OthersAreKept}
@@ -22,8 +28,9 @@ use Rattle.il_script.specs.declared.reply.Code.{Code}
 use Rattle.il_script.specs.declared.reply.Reply.{Reply}
 use Rattle.il_script.specs.declared.reply.Reply.TheVariants as reply
 use Rattle.lif_model.specs.Shelf.{Shelf}
-use Rattle.tape_folder.specs.Folders.{FolderView, FolderGoesOn, IsFolder, Nothing, file_named, is_hidden, part_name}
+use Rattle.tape_folder.specs.Folders.{FolderView, FolderGoesOn, IsFolder, Nothing, SameFolder, file_in_folder, is_hidden, part_name}
 use Rattle.tape_folder.specs.Keeping.{AreTaken, FileKept, KeptIs, KeptMakes, part_numbers}
+use Rattle.tape_folder.proofs.Steps.{same_on}
 use Rattle.tape_folder.specs.declared.keeping.Kept.{Kept}
 use Rattle.tape_folder.specs.declared.keeping.Kept.TheVariants as kept
 use Rattle.tape_jobs.specs.Volumes.{CommandDid, DoneWhole, FileContent, IsFileAt, Mounted, StaysBeside, StopLeaves, VolumesView, file_on, is_reading, volume_seen, volume_shown}
@@ -32,11 +39,11 @@ use Rattle.tape_jobs.specs.declared.copying.FileEnd.TheVariants as file_end
 use Rattle.tape_jobs.specs.declared.copying.Taken.{Taken}
 use Rattle.tape_jobs.specs.declared.went.Went.{Went}
 use Rattle.tape_jobs.specs.declared.went.Went.TheVariants as went
-use Rattle.tape_jobs.specs.Out.{AreCopied, AreNamesCopied, Copied, CopyDid, EndIs, EndsAre, FolderGains, FolderKeeps, FolderWent, GoesOnBeside, IsKeptSo, IsReadOnly, OnlyReads, OutDid, WasUnableSince, WentSo, Writes, WrittenBy, has_failed, has_fault, host_name, is_before_folder, is_fault, named}
+use Rattle.tape_jobs.specs.Out.{AreCopied, AreNamesCopied, Copied, CopyDid, EndIs, EndsAre, FolderGains, FolderKeeps, FolderWent, GoesOnBeside, IsKeptSo, IsReadOnly, OnlyReads, OutDid, RoseBy, WentSo, WereUnable, WritesFile, WrittenBy, has_failed, has_fault, host_name, is_before_folder, is_failed_read, is_not_written, named, not_written_count}
 
 -- ---- the folder keeps what it has
 
-known_of : (files : Option Shelf) (name bytes : List ℕ) → file_named name files ≡ Some bytes → is_some files ≡ true
+known_of : (files : Option Shelf) (name bytes : List ℕ) → file_in_folder name files ≡ Some bytes → is_some files ≡ true
 known_of None name bytes e = cc
 known_of (Some shelf) name bytes e = refl
 
@@ -46,6 +53,7 @@ none_unless (Some bytes) not = absurd (not bytes refl)
 
 pub keeps_on : (f h g : FolderView) → FolderKeeps f h → FolderKeeps h g → FolderKeeps f g
 keeps_on f h g a b = record {
+  folder = same_on f h g a.folder b.folder;
   closed = b.closed;
   known = b.known ∙ a.known;
   keeps = λ other bytes plain here. b.keeps other bytes plain (a.keeps other bytes plain here);
@@ -58,6 +66,7 @@ keeps_on f h g a b = record {
 
 pub keeps_none : (f : FolderView) → f.part ≡ None → FolderKeeps f f
 keeps_none f closed = record {
+  folder = record { path = refl; made = λ there. there; others = λ name. refl };
   closed = closed;
   known = refl;
   keeps = λ other bytes plain here. here;
@@ -69,6 +78,7 @@ keeps_none f closed = record {
 -- calls that change no file
 pub keeps_quiet : (f g : FolderView) → g.part ≡ None → FolderGoesOn Nothing f g → FolderKeeps f g
 keeps_quiet f g closed on = record {
+  folder = on.folder;
   closed = closed;
   known = on.known;
   keeps = λ other bytes plain here. same other ∙ here;
@@ -77,21 +87,22 @@ keeps_quiet f g closed on = record {
   unremoved = on.unremoved;
 }
   where
-    same : (other : List ℕ) → file_named other g.files ≡ file_named other f.files
+    same : (other : List ℕ) → file_in_folder other g.files ≡ file_in_folder other f.files
     same other = ⊎_elim (λ e. e) (λ none. absurd none) (on.files other)
 
-still_there : (name bytes other : List ℕ) (k : Kept) (f g : FolderView) → KeptIs name bytes f g k → file_named name f.files ≡ Some other → file_named name g.files ≡ Some other
-still_there name bytes other kept.Written f g is here = let no : ◌≡◌ {A = Option (List ℕ)} None (Some other) = sym (is (known_of f.files name other here)).0 ∙ here in cc
+still_there : (name bytes other : List ℕ) (k : Kept) (f g : FolderView) → KeptIs name bytes f g k → file_in_folder name f.files ≡ Some other → file_in_folder name g.files ≡ Some other
+still_there name bytes other kept.Written f g is here = let no : ◌≡◌ {A = Option (List ℕ)} None (Some other) = sym (is (known_of f.files name other here)).0.no_file ∙ here in cc
 still_there name bytes other kept.WasThere f g is here = let both = is (known_of f.files name other here) in both.1 ∙ sym both.0 ∙ here
-still_there name bytes other kept.Differs f g is here = (is (known_of f.files name other here)).1 ∙ here
+still_there name bytes other kept.Differs f g is here = (is (known_of f.files name other here)).2 ∙ here
 still_there name bytes other kept.NotWritten f g is here = is.0 ∙ here
 
 pub keeps_file : (name bytes : List ℕ) (k : Kept) (f g : FolderView) → FileKept name bytes k f g → FolderKeeps f g
 keeps_file name bytes k f g is = record {
+  folder = is.folder;
   closed = is.closed;
   known = is.known;
   keeps = λ other content plain here. ⊎_elim (λ same. same ∙ here)
-      (⊎_elim (λ named. subst (λ (x : List ℕ). file_named x g.files ≡ Some content) (sym named) (still_there name bytes content k f g is.answer_is (subst (λ (x : List ℕ). file_named x f.files ≡ Some content) named here)))
+      (⊎_elim (λ named. subst (λ (x : List ℕ). file_in_folder x g.files ≡ Some content) (sym named) (still_there name bytes content k f g is.answer_is (subst (λ (x : List ℕ). file_in_folder x f.files ≡ Some content) named here)))
       (λ hidden. let no : true ≡ false = sym hidden ∙ plain in cc)) (is.others other);
   parts = is.parts;
   failures = is.failures;
@@ -133,55 +144,56 @@ module _ (v : Volume) (name : Name) (file : FileContent) (on : file_on v (name_b
   abbrev pub host : List ℕ
   host = host_name (name_bytes name) file
 
-  makes_file : (k : Kept) (other : List ℕ) (content : Option (List ℕ)) → KeptMakes host file.bytes k other content → Writes v name (file_end.Kept k) other content
+  makes_file : (k : Kept) (other : List ℕ) (content : Option (List ℕ)) → KeptMakes host file.bytes k other content → WritesFile v name (file_end.Kept k) other content
   makes_file kept.Written other content made = (file, on, made.0, made.1)
   makes_file kept.WasThere other content made = absurd made
   makes_file kept.Differs other content made = absurd made
   makes_file kept.NotWritten other content made = absurd made
 
-  unseen : (before now : Option Shelf) (other : List ℕ) → is_some now ≡ is_some before → is_some before ≡ false → file_named other now ≡ file_named other before
+  unseen : (before now : Option Shelf) (other : List ℕ) → is_some now ≡ is_some before → is_some before ≡ false → file_in_folder other now ≡ file_in_folder other before
   unseen None None other known off = refl
   unseen None (Some now) other known off = cc
   unseen (Some before) now other known off = cc
 
   by_seen : (seen : Bool) → is_some f.files ≡ seen → is_some g.files ≡ is_some f.files → KeptIs host file.bytes f g kept.Written
-      → (file_named host g.files ≡ file_named host f.files) ⊎ (Writes v name (file_end.Kept kept.Written) host (file_named host g.files) ⊎ (is_hidden host ≡ true))
+      → (file_in_folder host g.files ≡ file_in_folder host f.files) ⊎ (WritesFile v name (file_end.Kept kept.Written) host (file_in_folder host g.files) ⊎ (is_hidden host ≡ true))
   by_seen true seen known is = inr (inl (file, on, refl, (is seen).1))
   by_seen false seen known is = inl (unseen f.files g.files host known seen)
 
   at_host : (k : Kept) → is_some g.files ≡ is_some f.files → KeptIs host file.bytes f g k
-      → (file_named host g.files ≡ file_named host f.files) ⊎ (Writes v name (file_end.Kept k) host (file_named host g.files) ⊎ (is_hidden host ≡ true))
+      → (file_in_folder host g.files ≡ file_in_folder host f.files) ⊎ (WritesFile v name (file_end.Kept k) host (file_in_folder host g.files) ⊎ (is_hidden host ≡ true))
   at_host kept.Written known is = by_seen (is_some f.files) refl known is
   at_host kept.WasThere known is = at_known (is_some f.files) refl
     where
-      at_known : (seen : Bool) → is_some f.files ≡ seen → (file_named host g.files ≡ file_named host f.files) ⊎ (Writes v name (file_end.Kept kept.WasThere) host (file_named host g.files) ⊎ (is_hidden host ≡ true))
+      at_known : (seen : Bool) → is_some f.files ≡ seen → (file_in_folder host g.files ≡ file_in_folder host f.files) ⊎ (WritesFile v name (file_end.Kept kept.WasThere) host (file_in_folder host g.files) ⊎ (is_hidden host ≡ true))
       at_known true seen = inl ((is seen).1 ∙ sym (is seen).0)
       at_known false seen = inl (unseen f.files g.files host known seen)
   at_host kept.Differs known is = at_known (is_some f.files) refl
     where
-      at_known : (seen : Bool) → is_some f.files ≡ seen → (file_named host g.files ≡ file_named host f.files) ⊎ (Writes v name (file_end.Kept kept.Differs) host (file_named host g.files) ⊎ (is_hidden host ≡ true))
-      at_known true seen = inl (is seen).1
+      at_known : (seen : Bool) → is_some f.files ≡ seen → (file_in_folder host g.files ≡ file_in_folder host f.files) ⊎ (WritesFile v name (file_end.Kept kept.Differs) host (file_in_folder host g.files) ⊎ (is_hidden host ≡ true))
+      at_known true seen = inl (is seen).2
       at_known false seen = inl (unseen f.files g.files host known seen)
   at_host kept.NotWritten known is = inl is.0
 
-  pub gains_file : (k : Kept) → FileKept host file.bytes k f g → FolderGains (Writes v name (file_end.Kept k)) f g
+  pub gains_file : (k : Kept) → FileKept host file.bytes k f g → FolderGains (WritesFile v name (file_end.Kept k)) f g
   gains_file k is = record {
     files = λ other. ⊎_elim inl (⊎_elim (λ named. at other named) (λ hidden. inr (inr hidden))) (is.others other);
     leaves = λ other content known plain left. ⊎_elim inl (λ made. inr (makes_file k other content made)) (is.leaves other content known plain left);
     left = λ other content known plain left. ⊎_elim inl (λ made. inr (makes_file k other content made)) (is.left other content known plain left);
   }
     where
-      at : (other : List ℕ) → other ≡ host → (file_named other g.files ≡ file_named other f.files) ⊎ (Writes v name (file_end.Kept k) other (file_named other g.files) ⊎ (is_hidden other ≡ true))
-      at other named = subst (λ (x : List ℕ). (file_named x g.files ≡ file_named x f.files) ⊎ (Writes v name (file_end.Kept k) x (file_named x g.files) ⊎ (is_hidden x ≡ true))) (sym named) (at_host k is.known is.answer_is)
+      at : (other : List ℕ) → other ≡ host → (file_in_folder other g.files ≡ file_in_folder other f.files) ⊎ (WritesFile v name (file_end.Kept k) other (file_in_folder other g.files) ⊎ (is_hidden other ≡ true))
+      at other named = subst (λ (x : List ℕ). (file_in_folder x g.files ≡ file_in_folder x f.files) ⊎ (WritesFile v name (file_end.Kept k) x (file_in_folder x g.files) ⊎ (is_hidden x ≡ true))) (sym named) (at_host k is.known is.answer_is)
 
-  so : (k : Kept) → KeptIs host file.bytes f g k → IsKeptSo host file.bytes k f g
-  so kept.Written is = is
-  so kept.WasThere is = λ known. (is known).1
-  so kept.Differs is = λ known. (is known).0
-  so kept.NotWritten is = ⊎_elim inl (λ taken. inr (inr taken)) is.1
+  so : (k : Kept) → SameFolder f g → KeptIs host file.bytes f g k → IsKeptSo host file.bytes k f g
+  so kept.Written is_folder is = is
+  so kept.WasThere is_folder is = λ known. (is known).1
+  so kept.Differs is_folder is = λ known. let all = is known in
+      (all.1, ⊎_elim (λ file. inl (ap is_some all.2 ∙ file, λ here. all.1 (sym all.2 ∙ here))) (λ other. inr (is_folder.others host ∙ other)) all.0)
+  so kept.NotWritten is_folder is = ⊎_elim inl (λ taken. inr (inr taken)) is.1
 
   pub end_of_file : (n : ℕ) (k : Kept) → is_hidden host ≡ false → FileKept host file.bytes k f g → EndIs n v name (file_end.Kept k) f g
-  end_of_file n k plain is = (file, on, plain, so k is.answer_is)
+  end_of_file n k plain is = (file, on, plain, so k is.folder is.answer_is)
 
 written_first : (v : Volume) (ends more : List Taken) (other : List ℕ) (content : Option (List ℕ)) → WrittenBy v ends other content → WrittenBy v (ends ++ more) other content
 written_first v [] more other content written = absurd written
@@ -197,22 +209,34 @@ part_is_hidden : (number : ℕ) → is_hidden (part_name number) ≡ true
 part_is_hidden number = refl
 
 module _ (f h g : FolderView) (a : FolderKeeps f h) (b : FolderKeeps h g) where
-  taken_before : AreTaken part_numbers h → WasUnableSince f g
-  taken_before taken = ⊎_elim (λ rose. inr (inl (rose_within f.unremoved f.unremoved h.unremoved g.unremoved (omega arith) rose b.unremoved)))
-      (λ same. inr (inr (λ number lt known. ap is_some (sym (same (part_name number) (part_is_hidden number))) ∙ taken number lt (a.known ∙ known)))) a.parts
+  pub were_taken : AreTaken part_numbers h → Rose f.unremoved g.unremoved ⊎ AreTaken part_numbers f
+  were_taken taken = ⊎_elim (λ rose. inl (rose_within f.unremoved f.unremoved h.unremoved g.unremoved (omega arith) rose b.unremoved))
+      (λ same. inr (λ number lt known. ⊎_elim (λ file. inl (ap is_some (sym (same (part_name number) (part_is_hidden number))) ∙ file))
+      (λ other. inr (sym (a.folder.others (part_name number)) ∙ other)) (taken number lt (a.known ∙ known)))) a.parts
 
   so_before : (name bytes : List ℕ) (k : Kept) → is_hidden name ≡ false → IsKeptSo name bytes k h g → IsKeptSo name bytes k f g
-  so_before name bytes kept.Written plain is = λ known. let both = is (a.known ∙ known) in
-      (none_unless (file_named name f.files) (λ old here. let no : ◌≡◌ {A = Option (List ℕ)} None (Some old) = sym both.0 ∙ a.keeps name old plain here in cc), both.1)
+  so_before name bytes kept.Written plain is = λ known. let both = is (a.known ∙ known) in (
+    record {
+      no_file = none_unless (file_in_folder name f.files) (λ old here. let no : ◌≡◌ {A = Option (List ℕ)} None (Some old) = sym both.0.no_file ∙ a.keeps name old plain here in cc);
+      no_other = sym (a.folder.others name) ∙ both.0.no_other;
+    },
+    both.1,
+  )
   so_before name bytes kept.WasThere plain is = λ known. is (a.known ∙ known)
-  so_before name bytes kept.Differs plain is = λ known here. is (a.known ∙ known) (a.keeps name bytes plain here)
+  so_before name bytes kept.Differs plain is = λ known. let both = is (a.known ∙ known) in (λ here. both.0 (a.keeps name bytes plain here), both.1)
   so_before name bytes kept.NotWritten plain is = ⊎_elim (λ rose. inl (rose_within f.failures h.failures g.failures g.failures a.failures rose (omega arith)))
-      (⊎_elim (λ rose. inr (inl (rose_within f.unremoved h.unremoved g.unremoved g.unremoved a.unremoved rose (omega arith)))) taken_before) is
+      (⊎_elim (λ rose. inr (inl (rose_within f.unremoved h.unremoved g.unremoved g.unremoved a.unremoved rose (omega arith)))) (λ taken. inr (were_taken taken))) is
+
+  other_stays : (name bytes : List ℕ) → is_hidden name ≡ false → (content : Option (List ℕ)) → file_in_folder name h.files ≡ content → is_some content ≡ true → content ≢ Some bytes
+      → (is_some (file_in_folder name g.files) ≡ true) × (file_in_folder name g.files ≢ Some bytes)
+  other_stays name bytes plain None is seen not = cc
+  other_stays name bytes plain (Some old) is seen not = let there = b.keeps name old plain is in (ap is_some there, λ here. not (sym there ∙ here))
 
   so_after : (name bytes : List ℕ) (k : Kept) → is_hidden name ≡ false → IsKeptSo name bytes k f h → IsKeptSo name bytes k f g
   so_after name bytes kept.Written plain is = λ known. ((is known).0, b.keeps name bytes plain (is known).1)
   so_after name bytes kept.WasThere plain is = λ known. b.keeps name bytes plain (is known)
-  so_after name bytes kept.Differs plain is = is
+  so_after name bytes kept.Differs plain is = λ known. let both = is known in
+      (both.0, ⊎_elim (λ file. inl (other_stays name bytes plain (file_in_folder name h.files) refl file.0 file.1)) (λ other. inr (b.folder.others name ∙ other)) both.1)
   so_after name bytes kept.NotWritten plain is = ⊎_elim (λ rose. inl (rose_within f.failures f.failures h.failures g.failures (omega arith) rose b.failures))
       (⊎_elim (λ rose. inr (inl (rose_within f.unremoved f.unremoved h.unremoved g.unremoved (omega arith) rose b.unremoved))) (λ taken. inr (inr taken))) is
 
@@ -251,6 +275,12 @@ tape_between : (y : Option Tape) (x z : Tape) (s t : Option Tape) → is_some y 
 tape_between None x z s t seen is last a b = let no : false ≡ true = seen ∙ ap is_some is in cc
 tape_between (Some y) x z s t seen is last a b = finished_twice x y z (a x y is refl) (b y z refl last)
 
+settles_between : (n : ℕ) (y : Option Tape) (x z : Tape) (s t : Option Tape) → is_some y ≡ is_some s → s ≡ Some x → t ≡ Some z → has_mark n (volume_of x) ≡ false
+    → ((x y' : Tape) → s ≡ Some x → y ≡ Some y' → has_mark n (volume_of x) ≡ false → SettlesAs (settled x) y')
+    → ((y' z : Tape) → y ≡ Some y' → t ≡ Some z → has_mark n (volume_of y') ≡ false → SettlesAs (settled y') z) → SettlesAs (settled x) z
+settles_between n None x z s t seen is last clear a b = let no : false ≡ true = seen ∙ ap is_some is in cc
+settles_between n (Some y) x z s t seen is last clear a b = let first = a x y is refl clear in settles_on x y z first (b y z refl last (unmarked_on n x y first clear))
+
 read_only_on : (a b : Bool) (s u t : Mounted) → is_some u.tape ≡ is_some s.tape → IsReadOnly a s u → IsReadOnly b u t → IsReadOnly (a || b) s t
 read_only_on true true s u t seen first last = rose_within s.faults s.faults u.faults t.faults (omega arith) first last.later
 read_only_on true false s u t seen first last = rose_within s.faults s.faults u.faults t.faults (omega arith) first (omega (arith, last.0))
@@ -264,6 +294,8 @@ reads_on a b s u t first last = record {
   own = λ own. last.own (first.own own);
   volume = λ own. last.volume (first.own own) ∙ first.volume own;
   tape = read_only_on a b s u t first.seen first.tape last.tape;
+  reads = λ x z is now clear. settles_between s.records u.tape x z s.tape t.tape first.seen is now clear first.reads
+      (λ y z is now clear. last.reads y z is now (subst (λ (n : ℕ). has_mark n (volume_of y) ≡ false) (sym first.records) clear));
 }
 
 pub reads_none : (s : Mounted) → OnlyReads false s s
@@ -273,6 +305,7 @@ reads_none s = record {
   own = λ own. own;
   volume = λ own. refl;
   tape = (refl, λ x y is now. inl (some_inj (sym now ∙ is)));
+  reads = λ x y is now clear. subst (SettlesAs (settled x)) (sym (some_inj (sym now ∙ is))) (settles_self x);
 }
   where
     some_inj : {x y : Tape} → ◌≡◌ {A = Option Tape} (Some y) (Some x) → y ≡ x
@@ -302,7 +335,7 @@ by_whole (reply.No code) answer own before after now same owns did = did.1 ∙ a
 by_whole reply.FaultMedium answer own before after now same owns did = ⊎_elim (λ was. was) (λ is. is ∙ ap Some same) (did owns)
 by_whole reply.FaultFrame answer own before after now same owns did = absurd did
 
-by_tape : (x y : Option Tape) → is_some y ≡ is_some x → ((before : Option Volume) → volume_shown x ≡ Some before → volume_shown y ≡ Some before) → volume_shown y ≡ volume_shown x
+pub by_tape : (x y : Option Tape) → is_some y ≡ is_some x → ((before : Option Volume) → volume_shown x ≡ Some before → volume_shown y ≡ Some before) → volume_shown y ≡ volume_shown x
 by_tape None None seen same = refl
 by_tape None (Some y) seen same = cc
 by_tape (Some x) y seen same = same (finished_volume_of x) refl
@@ -327,6 +360,7 @@ module _ (command : VolumeCommand) (s t : Mounted) (same : (n : ℕ) (volume : O
     own = did.own;
     volume = λ own. by_tape s.tape t.tape did.seen (λ before is. by_whole r _ _ before _ _ (same s.records before) own (did.whole before is));
     tape = by_reply r did;
+    reads = did.reads reading;
   }
 
 -- ---- beside the tape
@@ -388,21 +422,45 @@ beside_then P Q v u w seen weak a b = record {
   others = others_on v.inside u.inside v.images u.images w.images a.same a.others b.others;
 }
 
+-- ---- counts
+
+pub counted_on : (p : Taken → Bool) (ends more : List Taken) → count_by p (ends ++ more) ≡ count_by p ends + count_by p more
+counted_on p ends more = sum_by-append (λ taken. cond (p taken) 1 0) ends more
+
+rose_on : (a b n x y z : ℕ) → n ≡ a + b → RoseBy a x y → RoseBy b y z → RoseBy n x z
+rose_on a b n x y z is first last = omega (arith, is, first, last)
+
+module _ (f h g : FolderView) (a : FolderKeeps f h) (b : FolderKeeps h g) where
+  unable_on : (m k n : ℕ) → n ≡ m + k → WereUnable m f h → WereUnable k h g → WereUnable n f g
+  unable_on m k n is first last = ⊎_elim (λ rose. ⊎_elim (λ more. inl (rose_on m k n f.failures h.failures g.failures is rose more)) since last)
+      (⊎_elim (λ rose. inr (inl (rose_within f.unremoved f.unremoved h.unremoved g.unremoved (omega arith) rose b.unremoved))) (λ taken. inr (inr taken))) first
+    where
+      since : Rose h.unremoved g.unremoved ⊎ AreTaken part_numbers h → WereUnable n f g
+      since = ⊎_elim (λ rose. inr (inl (rose_within f.unremoved h.unremoved g.unremoved g.unremoved a.unremoved rose (omega arith)))) (λ taken. inr (were_taken f h g a b taken))
+
 -- ---- copies
 
 pub copied_on : (a b : Bool) (ends more : List Taken) (s u t : Mounted) (f h g : FolderView) → Copied a ends s u f h → Copied b more u t h g → Copied (a || b) (ends ++ more) s t f g
 copied_on a b ends more s u t f h g x y = record {
   reads = reads_on a b s u t x.reads y.reads;
+  faults = rose_on _ _ _ s.faults u.faults t.faults (counted_on (λ taken. is_failed_read taken.end) ends more) x.faults y.faults;
   keeps = keeps_on f h g x.keeps y.keeps;
+  not_written = unable_on f h g x.keeps y.keeps _ _ _ (counted_on (λ taken. is_not_written taken.end) ends more) x.not_written y.not_written;
   are_copied = λ v own shown. are_copied_on f h g x.keeps y.keeps s.records v ends more (x.are_copied v own shown)
       (subst (λ (n : ℕ). AreCopied n v more h g) x.reads.records (y.are_copied v (x.reads.own own) (x.reads.volume own ∙ shown)));
 }
+
+fault_free : (failed : Bool) (s t : Mounted) → IsReadOnly failed s t → RoseBy 0 s.faults t.faults
+fault_free true s t is = omega (arith, is.later)
+fault_free false s t is = omega (arith, is.0)
 
 -- no file was copied
 pub copied_none : (failed : Bool) (s t : Mounted) (f : FolderView) → f.part ≡ None → OnlyReads failed s t → Copied failed [] s t f f
 copied_none failed s t f closed reads = record {
   reads = reads;
+  faults = fault_free failed s t reads.tape;
   keeps = keeps_none f closed;
+  not_written = inl (omega arith);
   are_copied = λ v own shown. record { ends_are = tt; gains = gains_none (WrittenBy v []) f };
 }
 
@@ -410,7 +468,9 @@ copied_none failed s t f closed reads = record {
 pub copied_quiet : (s : Mounted) (f g : FolderView) → IsFolder f → g.part ≡ None → FolderGoesOn Nothing f g → Copied false [] s s f g
 copied_quiet s f g folder closed on = record {
   reads = reads_none s;
+  faults = omega arith;
   keeps = keeps_quiet f g closed on;
+  not_written = inl (omega (arith, on.failures));
   are_copied = λ v own shown. record { ends_are = tt; gains = gains_quiet (WrittenBy v []) f g folder on };
 }
 
@@ -421,14 +481,25 @@ module _ (name : Name) (s t : Mounted) where
   reads : (r : Reply) → CommandDid (Fetch (name_bytes name)) r s t → OnlyReads (reply_failed r) s t
   reads r did = command_reads (Fetch (name_bytes name)) s t (λ n volume. fetch_reads n (name_bytes name) volume) refl r did
 
+  one_fault : IsReadOnly true s t → RoseBy 1 s.faults t.faults
+  one_fault rose = omega (arith, rose.risen)
+
+  unable_by : (host bytes : List ℕ) (k : Kept) (f g : FolderView) → FileKept host bytes k f g → WereUnable (not_written_count (end_taken name (file_end.Kept k) ∷ [])) f g
+  unable_by host bytes kept.Written f g is = inl (omega (arith, is.failures))
+  unable_by host bytes kept.WasThere f g is = inl (omega (arith, is.failures))
+  unable_by host bytes kept.Differs f g is = inl (omega (arith, is.failures))
+  unable_by host bytes kept.NotWritten f g is = ⊎_elim (λ (rose : Rose f.failures g.failures). inl (omega (arith, rose.risen))) (λ taken. inr (inr taken)) is.answer_is.1
+
   pub took_file : (file : FileContent) (k : Kept) (f g : FolderView) → CommandDid (Fetch (name_bytes name)) reply.Ok s t → IsFileAt (volume_shown s.tape) (name_bytes name) file
       → is_hidden (host_name (name_bytes name) file) ≡ false → FileKept (host_name (name_bytes name) file) file.bytes k f g → Copied false (end_taken name (file_end.Kept k) ∷ []) s t f g
   took_file file k f g did at plain is = record {
     reads = reads reply.Ok did;
+    faults = omega (arith, did.cause);
     keeps = keeps_file _ _ k f g is;
+    not_written = unable_by _ _ k f g is;
     are_copied = λ v own shown. record {
       ends_are = (end_of_file v name file (at v shown) f g s.records k plain is, tt);
-      gains = gains_on (Writes v name (file_end.Kept k)) (WrittenBy v []) (WrittenBy v (end_taken name (file_end.Kept k) ∷ [])) f g g (λ other content made. inl made) (λ other content made. absurd made) is.known
+      gains = gains_on (WritesFile v name (file_end.Kept k)) (WrittenBy v []) (WrittenBy v (end_taken name (file_end.Kept k) ∷ [])) f g g (λ other content made. inl made) (λ other content made. absurd made) is.known
           (gains_file v name file (at v shown) f g k is) (gains_none (WrittenBy v []) g);
     };
   }
@@ -436,14 +507,18 @@ module _ (name : Name) (s t : Mounted) where
   pub took_refused : (code : Code) (f : FolderView) → f.part ≡ None → CommandDid (Fetch (name_bytes name)) (reply.No code) s t → Copied false (end_taken name (file_end.Refused code) ∷ []) s t f f
   took_refused code f closed did = record {
     reads = reads (reply.No code) did;
+    faults = omega (arith, did.cause);
     keeps = keeps_none f closed;
+    not_written = inl (omega arith);
     are_copied = λ v own shown. record { ends_are = (sym (did.whole (Some v) shown).0, tt); gains = gains_none _ f };
   }
 
   pub took_fault : (r : Reply) (f : FolderView) → f.part ≡ None → reply_failed r ≡ true → CommandDid (Fetch (name_bytes name)) r s t → Copied true (end_taken name file_end.Fault ∷ []) s t f f
   took_fault r f closed failed did = record {
     reads = subst (λ (b : Bool). OnlyReads b s t) failed (reads r did);
+    faults = one_fault (subst (λ (b : Bool). IsReadOnly b s t) failed (reads r did).tape);
     keeps = keeps_none f closed;
+    not_written = inl (omega arith);
     are_copied = λ v own shown. record { ends_are = (tt, tt); gains = gains_none _ f };
   }
 
@@ -454,13 +529,13 @@ beside_fetch v w name stays = beside_command (StopLeaves Dir v.mounted) (StopLea
 
 -- ---- the loop
 
-has_fault_on : (ends : List Taken) (taken : Taken) → has_fault (ends ++ taken ∷ []) ≡ (has_fault ends || is_fault taken.end)
-has_fault_on [] taken = or_false (is_fault taken.end)
+has_fault_on : (ends : List Taken) (taken : Taken) → has_fault (ends ++ taken ∷ []) ≡ (has_fault ends || is_failed_read taken.end)
+has_fault_on [] taken = or_false (is_failed_read taken.end)
   where
     or_false : (b : Bool) → (b || false) ≡ b
     or_false true = refl
     or_false false = refl
-has_fault_on (first ∷ rest) taken = or_on (has_fault (rest ++ taken ∷ [])) (has_fault rest) (is_fault taken.end) (is_fault first.end) (has_fault_on rest taken)
+has_fault_on (first ∷ rest) taken = or_on (has_fault (rest ++ taken ∷ [])) (has_fault rest) (is_failed_read taken.end) (is_failed_read first.end) (has_fault_on rest taken)
   where
     or_on : (a b c : Bool) (first : Bool) → a ≡ (b || c) → (first || a) ≡ ((first || b) || c)
     or_on a b c true e = refl
@@ -468,10 +543,10 @@ has_fault_on (first ∷ rest) taken = or_on (has_fault (rest ++ taken ∷ [])) (
 
 -- one file more
 pub copied_next : (ends items : List Taken) (taken : Taken) (v u w : VolumesView) (f h g : FolderView) → items ≡ ends ++ taken ∷ [] → Copied (has_fault ends) ends v.mounted u.mounted f h
-    → Copied (is_fault taken.end) (taken ∷ []) u.mounted w.mounted h g → Copied (has_fault items) items v.mounted w.mounted f g
+    → Copied (is_failed_read taken.end) (taken ∷ []) u.mounted w.mounted h g → Copied (has_fault items) items v.mounted w.mounted f g
 copied_next ends items taken v u w f h g is x y =
     subst (λ (l : List Taken). Copied (has_fault l) l v.mounted w.mounted f g) (sym is)
-    (subst (λ (b : Bool). Copied b (ends ++ taken ∷ []) v.mounted w.mounted f g) (sym (has_fault_on ends taken)) (copied_on (has_fault ends) (is_fault taken.end) ends (taken ∷ []) v.mounted u.mounted w.mounted f h g x y))
+    (subst (λ (b : Bool). Copied b (ends ++ taken ∷ []) v.mounted w.mounted f g) (sym (has_fault_on ends taken)) (copied_on (has_fault ends) (is_failed_read taken.end) ends (taken ∷ []) v.mounted u.mounted w.mounted f h g x y))
 
 pub beside_next : (failed : Bool) (v u w : VolumesView) → OnlyReads failed v.mounted u.mounted → GoesOnBeside (StopLeaves Dir v.mounted) v u → GoesOnBeside (StopLeaves Dir u.mounted) u w
     → GoesOnBeside (StopLeaves Dir v.mounted) v w
@@ -573,8 +648,8 @@ copy_unable asked s f closed = record { copied = copied_none false s s f closed 
 
 went_named : (w : Went) (n : ℕ) (asked names : List Name) (shown : Option (Option Volume)) (ends : List Taken) (f g : FolderView) → AreNamesCopied n asked shown names
     → FolderWent w (λ copied. copied ≡ names) ends f g → WentSo w n asked shown ends f g
-went_named went.Done n asked names shown ends f g are so = (so.0, subst (AreNamesCopied n asked shown) (sym so.1) are, so.2)
-went_named went.NotAll n asked names shown ends f g are so = (so.0, subst (AreNamesCopied n asked shown) (sym so.1) are, so.2)
+went_named went.Done n asked names shown ends f g are so = (so.0, subst (AreNamesCopied n asked shown) (sym so.1) are, so.2, so.3)
+went_named went.NotAll n asked names shown ends f g are so = (so.0, subst (AreNamesCopied n asked shown) (sym so.1) are, so.2, so.3)
 went_named went.FolderLost n asked names shown ends f g are so = (so.0, ⊎_elim inl (λ same. inr (subst (AreNamesCopied n asked shown) (sym same) are)) so.1)
 went_named (went.Refused code) n asked names shown ends f g are so = absurd so
 went_named went.Fault n asked names shown ends f g are so = absurd so

@@ -1,2 +1,5 @@
 mod Listed
+mod Settling
 pub mod Copies
+mod Gathered
+mod Examples

@@ -1,4 +1,4 @@
--- What the job `dir` does on one image.
+-- What the job `dir` does on one image, and each other job that writes a text for a volume.
 use Rattle.std.specs.Prelude.{◌≡◌, ◌++◌, ℕ, Bool, List, map, Option, Some, option_map}
 use Rattle.std.specs.Io.KnownBytes.{Appends}
 use Rattle.lif_model.specs.Causes.{Rose}
@@ -12,16 +12,23 @@ use Rattle.il_script.specs.declared.reply.Reply.{Reply}
 use Rattle.il_script.specs.declared.reply.Reply.TheVariants as reply
 use Rattle.tape_text.specs.Listing.{heading_of, listing_of}
 use Rattle.tape_text.specs.Rows.{rows_of, rows_text}
+use Rattle.tape_text.specs.Free.{free_text}
+use Rattle.tape_text.specs.Map.{map_text}
+use Rattle.tape_text.specs.Picture.{picture_text}
 use Rattle.tape_jobs.specs.Volumes.{Mounted, CommandDid, volume_shown}
 use Rattle.tape_jobs.specs.declared.listing.Style.{Style}
 use Rattle.tape_jobs.specs.declared.listing.Style.TheVariants as style
 use Rattle.tape_jobs.specs.declared.went.Went.{Went}
 use Rattle.tape_jobs.specs.declared.went.Went.TheVariants as went
 
--- the text for a volume on a medium of n records: a listing, after the name of its image if it has a heading; or rows of CSV
+-- The text for a volume on a medium of n records: a listing, after the name of its image if it has a heading; or rows of CSV;
+-- or what is free; or a map or a picture of its records. The last three do not depend on `all`.
 abbrev pub styled_text : Style → Bool → ℕ → HeaderParts → List Slot → List ℕ
 styled_text (style.Columns heading) all n h slots = heading_of (option_map (λ name. name.now) heading) ++ listing_of all n h slots
 styled_text (style.Rows image) all n h slots = rows_text (rows_of all n image.now h slots)
+styled_text style.Free all n h slots = free_text n h slots
+styled_text style.Map all n h slots = map_text n h slots
+styled_text style.Picture all n h slots = picture_text n h slots
 
 abbrev pub volume_text : Style → Bool → ℕ → Volume → List ℕ
 volume_text style all n v = styled_text style all n (header_of v.header) (map slot_from v.slots)

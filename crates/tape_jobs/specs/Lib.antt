@@ -2,3 +2,5 @@ pub mod Volumes
 pub mod Dir
 pub mod Reading
 pub mod Out
+pub mod Collecting
+pub mod Differences

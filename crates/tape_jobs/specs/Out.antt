@@ -1,10 +1,14 @@
 -- What the job `out` does, which copies files of an image into a folder.
-use Rattle.std.specs.Prelude.{◌≡◌, ◌≢◌, ◌⊎◌, ◌≤◌, ◌&&◌, ◌||◌, ℕ, Bool, true, false, List, [], ◌∷◌, map, Option, Some, None, is_some}
+use Rattle.std.specs.Prelude.{◌≡◌, ◌≢◌, ◌⊎◌, ◌≤◌, ◌+◌, ◌-◌, ◌^◌, ◌&&◌, ◌||◌, ℕ, min, Bool, true, false, List, [], ◌∷◌, map, Option, Some, None, is_some}
+use Rattle.std.specs.List.{count_by}
 use Rattle.lif_model.specs.Apply.{Dir, Fetch, apply}
 use Rattle.lif_model.specs.Causes.{Rose}
 use Rattle.lif_model.specs.Finished.{IsFinished}
 use Rattle.lif_model.specs.Tape.{Tape}
-use Rattle.lif_model.specs.Volume.{Volume}
+use Rattle.lif_model.specs.Redo.{settled}
+use Rattle.lif_model.specs.Commit.{SettlesAs}
+use Rattle.lif_model.specs.Volume.{Volume, volume_of}
+use Rattle.lif_model.specs.Packing.{has_mark}
 use Rattle.lif_dir.specs.Entries.{name_bytes, slot_from}
 use Rattle.lif_dir.specs.declared.entries.Name.{Name}
 use Rattle.il_script.specs.declared.reply.Code.{Code}
@@ -12,7 +16,7 @@ use Rattle.il_script.specs.declared.reply.Reply.TheVariants as reply
 use Rattle.il_script.specs.Sheet.{Sheet}
 use Rattle.tape_names.specs.HostNames.{host_name_of}
 use Rattle.tape_text.specs.Listing.{shown_files}
-use Rattle.tape_folder.specs.Folders.{FolderView, ShowsFiles, file_named, is_hidden}
+use Rattle.tape_folder.specs.Folders.{FolderView, IsUnusedName, SameFolder, ShowsFiles, file_in_folder, is_hidden}
 use Rattle.tape_folder.specs.Keeping.{AreTaken, part_numbers}
 use Rattle.tape_folder.specs.declared.keeping.Kept.{Kept}
 use Rattle.tape_folder.specs.declared.keeping.Kept.TheVariants as kept
@@ -61,14 +65,34 @@ all_copied [] = true
 all_copied (taken ∷ rest) = is_copied taken.end && all_copied rest
 
 -- the medium failed
-abbrev pub is_fault : FileEnd → Bool
-is_fault (file_end.Kept k) = false
-is_fault (file_end.Refused code) = false
-is_fault file_end.Fault = true
+abbrev pub is_failed_read : FileEnd → Bool
+is_failed_read (file_end.Kept k) = false
+is_failed_read (file_end.Refused code) = false
+is_failed_read file_end.Fault = true
 
 abbrev pub has_fault : List Taken → Bool
 has_fault [] = false
-has_fault (taken ∷ rest) = is_fault taken.end || has_fault rest
+has_fault (taken ∷ rest) = is_failed_read taken.end || has_fault rest
+
+-- how often the medium failed
+abbrev pub fault_count : List Taken → ℕ
+fault_count ends = count_by (λ taken. is_failed_read taken.end) ends
+
+-- the folder could not write or compare the file
+abbrev pub is_not_written : FileEnd → Bool
+is_not_written (file_end.Kept kept.Written) = false
+is_not_written (file_end.Kept kept.WasThere) = false
+is_not_written (file_end.Kept kept.Differs) = false
+is_not_written (file_end.Kept kept.NotWritten) = true
+is_not_written (file_end.Refused code) = false
+is_not_written file_end.Fault = false
+
+abbrev pub not_written_count : List Taken → ℕ
+not_written_count ends = count_by (λ taken. is_not_written taken.end) ends
+
+-- a count rose by this much or more, or is at its last value
+abbrev pub RoseBy : (more before now : ℕ) → Type 0
+RoseBy more before now = min (before + more) (2 ^ 64 - 1) ≤ now
 
 -- ---- the image
 
@@ -84,6 +108,8 @@ pub record OnlyReads (failed : Bool) (s t : Mounted) : Type 0 where
   pub own : OwnsGate s.tape → OwnsGate t.tape
   pub volume : OwnsGate s.tape → volume_shown t.tape ≡ volume_shown s.tape
   pub tape : IsReadOnly failed s t
+  -- Also after a fault, a tape whose volume has no mark settles to the same, in all records except the gate.
+  pub reads : (x y : Tape) → s.tape ≡ Some x → t.tape ≡ Some y → has_mark s.records (volume_of x) ≡ false → SettlesAs (settled x) y
 
 -- Beside the tape nothing changed, and each tape that a stop may have left has the property `leaves`, or could be left
 -- before.
@@ -97,20 +123,21 @@ pub record GoesOnBeside (leaves : Tape → Type 0) (v w : VolumesView) : Type 0 
 
 -- What holds of the folder, whatever is copied.
 pub record FolderKeeps (f g : FolderView) : Type 0 where
+  pub folder : SameFolder f g
   -- no part file is open
   pub closed : g.part ≡ None
   pub known : is_some g.files ≡ is_some f.files
   -- a file that the folder has stays as it is
-  pub keeps : (other bytes : List ℕ) → is_hidden other ≡ false → file_named other f.files ≡ Some bytes → file_named other g.files ≡ Some bytes
+  pub keeps : (other bytes : List ℕ) → is_hidden other ≡ false → file_in_folder other f.files ≡ Some bytes → file_in_folder other g.files ≡ Some bytes
   -- a part file was not removed, or the hidden files are as before
-  pub parts : Rose f.unremoved g.unremoved ⊎ ((other : List ℕ) → is_hidden other ≡ true → file_named other g.files ≡ file_named other f.files)
+  pub parts : Rose f.unremoved g.unremoved ⊎ ((other : List ℕ) → is_hidden other ≡ true → file_in_folder other g.files ≡ file_in_folder other f.files)
   -- no count falls
   pub failures : f.failures ≤ g.failures
   pub unremoved : f.unremoved ≤ g.unremoved
 
 -- Each file that is not hidden is as before, or as it is made. So is what a stop may leave under its name.
 pub record FolderGains (makes : List ℕ → Option (List ℕ) → Type 0) (f g : FolderView) : Type 0 where
-  pub files : (other : List ℕ) → (file_named other g.files ≡ file_named other f.files) ⊎ (makes other (file_named other g.files) ⊎ (is_hidden other ≡ true))
+  pub files : (other : List ℕ) → (file_in_folder other g.files ≡ file_in_folder other f.files) ⊎ (makes other (file_in_folder other g.files) ⊎ (is_hidden other ≡ true))
   pub leaves : (other : List ℕ) (content : Option (List ℕ)) → ShowsFiles f → is_hidden other ≡ false → g.leaves other content → f.leaves other content ⊎ makes other content
   pub left : (other : List ℕ) (content : Option (List ℕ)) → ShowsFiles f → is_hidden other ≡ false → g.left other content → f.left other content ⊎ makes other content
 
@@ -118,11 +145,19 @@ pub record FolderGains (makes : List ℕ → Option (List ℕ) → Type 0) (f g 
 abbrev pub WasUnableSince : FolderView → FolderView → Type 0
 WasUnableSince f g = Rose f.failures g.failures ⊎ (Rose f.unremoved g.unremoved ⊎ AreTaken part_numbers f)
 
+-- this many files were not written: so many calls failed, or more; or the numbers of part files are taken
+abbrev pub WereUnable : ℕ → FolderView → FolderView → Type 0
+WereUnable count f g = RoseBy count f.failures g.failures ⊎ (Rose f.unremoved g.unremoved ⊎ AreTaken part_numbers f)
+
+-- a file of that name has other bytes, or something that is no file has the name
+abbrev pub HasOther : (name bytes : List ℕ) → FolderView → Type 0
+HasOther name bytes g = ((is_some (file_in_folder name g.files) ≡ true) × (file_in_folder name g.files ≢ Some bytes)) ⊎ (g.other name ≡ true)
+
 -- what the folder did with a file of that host name and these bytes, from f to g
 abbrev pub IsKeptSo : (name bytes : List ℕ) → Kept → (f g : FolderView) → Type 0
-IsKeptSo name bytes kept.Written f g = ShowsFiles f → (file_named name f.files ≡ None) × (file_named name g.files ≡ Some bytes)
-IsKeptSo name bytes kept.WasThere f g = ShowsFiles f → file_named name g.files ≡ Some bytes
-IsKeptSo name bytes kept.Differs f g = ShowsFiles f → file_named name f.files ≢ Some bytes
+IsKeptSo name bytes kept.Written f g = ShowsFiles f → IsUnusedName name f × (file_in_folder name g.files ≡ Some bytes)
+IsKeptSo name bytes kept.WasThere f g = ShowsFiles f → file_in_folder name g.files ≡ Some bytes
+IsKeptSo name bytes kept.Differs f g = ShowsFiles f → (file_in_folder name f.files ≢ Some bytes) × HasOther name bytes g
 IsKeptSo name bytes kept.NotWritten f g = WasUnableSince f g
 
 -- The file of that name on the volume v of a medium of n records ended so: it was read; or the command that reads it is
@@ -138,15 +173,15 @@ EndsAre n v [] f g = Unit {0}
 EndsAre n v (taken ∷ rest) f g = EndIs n v taken.name taken.end f g × EndsAre n v rest f g
 
 -- the file was written under that name, with this content
-abbrev pub Writes : Volume → Name → FileEnd → List ℕ → Option (List ℕ) → Type 0
-Writes v name (file_end.Kept kept.Written) other content = (file : FileContent) × (file_on v (name_bytes name) ≡ Some file)
+abbrev pub WritesFile : Volume → Name → FileEnd → List ℕ → Option (List ℕ) → Type 0
+WritesFile v name (file_end.Kept kept.Written) other content = (file : FileContent) × (file_on v (name_bytes name) ≡ Some file)
     × (other ≡ host_name (name_bytes name) file) × (content ≡ Some file.bytes)
-Writes v name _ other content = ⊥
+WritesFile v name _ other content = ⊥
 
 -- one of the files was
 abbrev pub WrittenBy : Volume → List Taken → List ℕ → Option (List ℕ) → Type 0
 WrittenBy v [] other content = ⊥
-WrittenBy v (taken ∷ rest) other content = Writes v taken.name taken.end other content ⊎ WrittenBy v rest other content
+WrittenBy v (taken ∷ rest) other content = WritesFile v taken.name taken.end other content ⊎ WrittenBy v rest other content
 
 -- Files of the volume v were copied, with these ends.
 pub record AreCopied (n : ℕ) (v : Volume) (ends : List Taken) (f g : FolderView) : Type 0 where
@@ -156,7 +191,11 @@ pub record AreCopied (n : ℕ) (v : Volume) (ends : List Taken) (f g : FolderVie
 -- The commands only read, and files were copied with these ends.
 pub record Copied (failed : Bool) (ends : List Taken) (s t : Mounted) (f g : FolderView) : Type 0 where
   pub reads : OnlyReads failed s t
+  -- the medium counts each fault
+  pub faults : RoseBy (fault_count ends) s.faults t.faults
   pub keeps : FolderKeeps f g
+  -- each file that was not written has a cause of its own
+  pub not_written : WereUnable (not_written_count ends) f g
   -- if contracts can see the volume
   pub are_copied : (v : Volume) → OwnsGate s.tape → volume_shown s.tape ≡ Some (Some v) → AreCopied s.records v ends f g
 
@@ -164,18 +203,19 @@ pub record Copied (failed : Bool) (ends : List Taken) (s t : Mounted) (f g : Fol
 
 -- a stop leaves each file that is not hidden as it is
 abbrev pub IsOnDisk : FolderView → Type 0
-IsOnDisk g = (name : List ℕ) (content : Option (List ℕ)) → ShowsFiles g → is_hidden name ≡ false → g.leaves name content → content ≡ file_named name g.files
+IsOnDisk g = (name : List ℕ) (content : Option (List ℕ)) → ShowsFiles g → is_hidden name ≡ false → g.leaves name content → content ≡ file_in_folder name g.files
 
 -- by what became of the files
-abbrev pub WentBy : Went → List Taken → Type 0
-WentBy went.Done ends = all_copied ends ≡ true
-WentBy went.NotAll ends = all_copied ends ≡ false
-WentBy _ ends = ⊥
+abbrev pub FilesWentBy : Went → List Taken → Type 0
+FilesWentBy went.Done ends = all_copied ends ≡ true
+FilesWentBy went.NotAll ends = all_copied ends ≡ false
+FilesWentBy _ ends = ⊥
 
--- By how the job went: all files were copied, or one was not, and the disk has the names; or a call of the folder failed.
+-- By how the job went: all files were copied, or one was not, the folder is there, and the disk has the names; or a call
+-- of the folder failed.
 abbrev pub FolderWent : Went → (AreNames : List Name → Type 0) → (ends : List Taken) → (f g : FolderView) → Type 0
-FolderWent went.Done AreNames ends f g = (all_copied ends ≡ true) × AreNames (map (λ taken. taken.name) ends) × IsOnDisk g
-FolderWent went.NotAll AreNames ends f g = (all_copied ends ≡ false) × AreNames (map (λ taken. taken.name) ends) × IsOnDisk g
+FolderWent went.Done AreNames ends f g = (all_copied ends ≡ true) × AreNames (map (λ taken. taken.name) ends) × IsOnDisk g × (g.made ≡ true)
+FolderWent went.NotAll AreNames ends f g = (all_copied ends ≡ false) × AreNames (map (λ taken. taken.name) ends) × IsOnDisk g × (g.made ≡ true)
 FolderWent went.FolderLost AreNames ends f g = Rose f.failures g.failures × ((ends ≡ []) ⊎ AreNames (map (λ taken. taken.name) ends))
 FolderWent _ AreNames ends f g = ⊥
 

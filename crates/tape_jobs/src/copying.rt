@@ -6,13 +6,15 @@ ghost use Rattle.tape_text.specs.Listing.{shown_slot, shown_files};
 ghost use Rattle.tape_folder.specs.Keeping.{FileKept};
 ghost use Rattle.tape_folder.specs.Folders.{is_hidden};
 ghost use Rattle.tape_jobs.specs.Out.{AreNamesCopied, Copied, CopyDid, FolderWent, GoesOnBeside, HasRoomForName};
-ghost use Rattle.tape_jobs.specs.Out.{OutDid, WentBy, named};
-ghost use Rattle.tape_jobs.specs.Out.{all_copied, has_fault, host_name, is_before_folder, is_fault};
+ghost use Rattle.tape_jobs.specs.Out.{OutDid, FilesWentBy, named};
+ghost use Rattle.tape_jobs.specs.Out.{all_copied, has_fault, host_name, is_before_folder, is_failed_read};
 ghost use Rattle.tape_jobs.specs.Volumes.{StaysBeside, StopLeaves, content_in, volume_shown};
 
 use crate::job::VolumeJob;
+use crate::progress::Progress;
 use crate::volumes::{FileRead, Volumes};
 use crate::went::Went;
+use il_ports::Sink;
 use il_script::{Code, Page, Reply};
 use lif_dir::{Name, Slot, SlotTable};
 use lif_plan::is_redo_file;
@@ -78,7 +80,7 @@ fn take_file<V: Volumes, F: Folder>(
     requires closed { (F.view folder.old).part ≡ None }
     ensures valid { (V.seen volumes.new).valid }
     ensures room { page.new.room ≡ page.old.room }
-    ensures copied { Copied (is_fault result) (record { name = name.now; end = result } ∷ [])
+    ensures copied { Copied (is_failed_read result) (record { name = name.now; end = result } ∷ [])
         (V.seen volumes.old).mounted (V.seen volumes.new).mounted (F.view folder.old) (F.view folder.new) }
     ensures beside { GoesOnBeside (StopLeaves Dir (V.seen volumes.old).mounted)
         (V.seen volumes.old) (V.seen volumes.new) }
@@ -91,11 +93,12 @@ fn take_file<V: Volumes, F: Folder>(
 }
 
 /// Copies the files of these names. If one cannot be copied, the next one is.
-fn take_files<V: Volumes, F: Folder>(
+fn take_files<V: Volumes, F: Folder, P: Sink + Drop>(
     volumes: &mut V,
     names: &[Name],
     folder: &mut F,
     page: &mut Page,
+    progress: &mut Progress<P>,
     ends: &mut Vec<Taken>,
 )
     requires valid { (V.seen volumes.old).valid }
@@ -111,6 +114,7 @@ fn take_files<V: Volumes, F: Folder>(
         (V.seen volumes.old) (V.seen volumes.new) }
 {
     for name in names {
+        progress.tell(ends.len() + 1, names.len(), name, page);
         let end = take_file(volumes, name, folder, page);
         ends.push(Taken { name: *name, end }).unwrap();
     }
@@ -130,7 +134,7 @@ fn all_copied(ends: &[Taken]) -> bool
 
 /// Says how the job went by what became of the files.
 fn went_by(ends: &[Taken]) -> Went
-    ensures { WentBy result ends.now }
+    ensures { FilesWentBy result ends.now }
 {
     if all_copied(ends) {
         Went::Done
@@ -140,11 +144,12 @@ fn went_by(ends: &[Taken]) -> Went
 }
 
 /// Makes the folder, and copies the files of these names into it.
-fn copy_files<V: Volumes, F: Folder>(
+fn copy_files<V: Volumes, F: Folder, P: Sink + Drop>(
     volumes: &mut V,
     names: &[Name],
     folder: &mut F,
     page: &mut Page,
+    progress: &mut Progress<P>,
     ends: &mut Vec<Taken>,
 ) -> Went
     requires valid { (V.seen volumes.old).valid }
@@ -163,7 +168,7 @@ fn copy_files<V: Volumes, F: Folder>(
     if folder.prepare().is_err() {
         return Went::FolderLost;
     }
-    take_files(volumes, names, folder, page, ends);
+    take_files(volumes, names, folder, page, progress, ends);
     if folder.settle().is_err() {
         return Went::FolderLost;
     }
@@ -203,7 +208,7 @@ fn names_in(alloc: Global, size: u16, slots: &SlotTable) -> Result<Vec<Name>, Al
 }
 
 /// Returns the names of the files that are to be copied.
-fn names_to_copy<V: Volumes>(
+pub(crate) fn names_to_copy<V: Volumes>(
     alloc: Global,
     volumes: &V,
     asked: &[Name],
@@ -224,12 +229,13 @@ fn names_to_copy<V: Volumes>(
 
 /// Copies files, after the directory was read. The names and the room for the ends are taken first, since a fault may
 /// make the image forget the directory.
-fn copy_listed<V: Volumes, F: Folder>(
+fn copy_listed<V: Volumes, F: Folder, P: Sink + Drop>(
     alloc: Global,
     volumes: &mut V,
     asked: &[Name],
     folder: &mut F,
     page: &mut Page,
+    progress: &mut Progress<P>,
     ends: &mut Vec<Taken>,
 ) -> Went
     requires valid { (V.seen volumes.old).valid }
@@ -251,16 +257,17 @@ fn copy_listed<V: Volumes, F: Folder>(
         return Went::OutOfMemory;
     };
     *ends = room;
-    copy_files(volumes, &names, folder, page, ends)
+    copy_files(volumes, &names, folder, page, progress, ends)
 }
 
 /// Copies files of the image into the folder.
-fn copy<V: Volumes, F: Folder>(
+fn copy<V: Volumes, F: Folder, P: Sink + Drop>(
     alloc: Global,
     volumes: &mut V,
     asked: &[Name],
     folder: &mut F,
     page: &mut Page,
+    progress: &mut Progress<P>,
     ends: &mut Vec<Taken>,
 ) -> Went
     requires valid { (V.seen volumes.old).valid }
@@ -275,7 +282,7 @@ fn copy<V: Volumes, F: Folder>(
         (V.seen volumes.old) (V.seen volumes.new) }
 {
     match volumes.list() {
-        Reply::Ok => copy_listed(alloc, volumes, asked, folder, page, ends),
+        Reply::Ok => copy_listed(alloc, volumes, asked, folder, page, progress, ends),
         Reply::No(code) => Went::Refused(code),
         Reply::FaultFrame | Reply::FaultMedium => Went::Fault,
     }
@@ -283,18 +290,20 @@ fn copy<V: Volumes, F: Folder>(
 
 /// The job that copies files of one image into a folder.
 #[derive(Drop)]
-pub struct Copying<'a, F: Drop> {
+pub struct Copying<'a, F: Drop, P: Drop> {
     /// The names of the files. If there is none, all files except the redo file are copied.
     pub names: &'a [Name],
     /// The folder.
     pub folder: F,
     /// A page for a host name.
     pub page: Page,
+    /// Where it is told which file is copied.
+    pub progress: Progress<P>,
     /// The files that were to be copied, and what became of each. It is empty at first.
     pub ends: Vec<Taken>,
 }
 
-impl<'a, F: Folder + Drop> VolumeJob for Copying<'a, F> {
+impl<'a, F: Folder + Drop, P: Sink + Drop> VolumeJob for Copying<'a, F, P> {
     ghost use Rattle.std.specs.Prelude.{◌≡◌, [], None, true};
     ghost use Rattle.lif_model.specs.Apply.{Dir};
     ghost use Rattle.tape_jobs.specs.Out.{HasRoomForName, OutDid, is_before_folder};
@@ -315,6 +324,7 @@ impl<'a, F: Folder + Drop> VolumeJob for Copying<'a, F> {
             self.names,
             &mut self.folder,
             &mut self.page,
+            &mut self.progress,
             &mut self.ends,
         )
     }

@@ -11,15 +11,21 @@ use il_script::Reply;
 use lif_dir::SlotTable;
 use lif_header::Header;
 use std::alloc::Global;
-use tape_text::{csv_rows, listing};
+use tape_text::{csv_rows, free_text, listing, map_text, picture_text};
 
-/// How a volume is listed.
+/// Which text is written for a volume.
 #[derive(Clone, Copy, Debug)]
 pub enum Style<'a> {
-    /// In columns, after the name of the image if it has a heading.
+    /// Its listing in columns, after the name of the image if it has a heading.
     Columns(Option<&'a str>),
-    /// As rows of CSV, which begin with the name of the image.
+    /// Its listing as rows of CSV, which begin with the name of the image.
     Rows(&'a str),
+    /// Its line, and the largest file that can be added.
+    Free,
+    /// What each record belongs to, in rows of characters.
+    Map,
+    /// What each record belongs to, as an SVG file.
+    Picture,
 }
 
 /// Writes the text for a volume with this header and these slots, on a medium of `size` records.
@@ -42,6 +48,18 @@ fn write_volume<K: Sink>(
         },
         Style::Rows(image) => match csv_rows(alloc, image.as_bytes(), all, size, &header, slots) {
             Ok(rows) => written(out, rows.as_slice()),
+            Err(_) => Went::OutOfMemory,
+        },
+        Style::Free => match free_text(alloc, size, &header, slots) {
+            Ok(page) => written(out, page.text()),
+            Err(_) => Went::OutOfMemory,
+        },
+        Style::Map => match map_text(alloc, size, &header, slots) {
+            Ok(page) => written(out, page.text()),
+            Err(_) => Went::OutOfMemory,
+        },
+        Style::Picture => match picture_text(alloc, size, &header, slots) {
+            Ok(page) => written(out, page.text()),
             Err(_) => Went::OutOfMemory,
         },
     }
@@ -67,7 +85,7 @@ fn write_listing<V: Volumes, K: Sink>(
     write_volume(alloc, style, all, volumes.size(), header, slots, out)
 }
 
-/// Lists one image.
+/// Writes a text for one image.
 pub fn dir<V: Volumes, K: Sink>(
     alloc: Global,
     volumes: &mut V,
@@ -89,12 +107,12 @@ pub fn dir<V: Volumes, K: Sink>(
     }
 }
 
-/// The job `dir` on one image, which lists it on standard output.
+/// A job that writes a text for one image to standard output.
 #[derive(Drop)]
 pub struct Listing<'a, K: Drop> {
-    /// How it is listed.
+    /// Which text is written.
     pub style: Style<'a>,
-    /// Whether the redo file is listed too.
+    /// Whether a listing has the redo file too. The other texts do not depend on this.
     pub all: bool,
     /// Standard output.
     pub out: K,

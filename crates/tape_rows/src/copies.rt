@@ -2,6 +2,7 @@
 ghost use Rattle.std.specs.Prelude.{◌≡◌, ◌≤◌, IfOk, None, [], length};
 
 use crate::given::{Answer, CONTENT, Given, volume};
+use il_ports::MemorySink;
 use il_same::same;
 use il_script::{Code, Page};
 use lif_dir::Name;
@@ -10,15 +11,20 @@ use std::io::ErrorKind;
 use std::process::Abort;
 use std::test::Fail;
 use tape_folder::{Folder, Kept, MemoryFolder};
-use tape_jobs::{Copying, FileEnd, Taken, VolumeJob, Went};
+use tape_jobs::{Copying, FileEnd, Progress, Taken, VolumeJob, Went};
 
 /// The host names of the two files of the volume.
 const STARTUP: &str = "STARTUP.E214.12060000";
 
 const A_B: &str = "A,B.E0D0.00800000";
 
-/// A folder with these files, of which these calls fail.
-fn folder(alloc: Global, files: &[(&str, &[u8])], calls: &[u64]) -> Result<MemoryFolder, AllocError>
+/// A folder with these files and these names of what is no file, of which these calls fail.
+fn folder_with(
+    alloc: Global,
+    files: &[(&str, &[u8])],
+    others: &[&str],
+    calls: &[u64],
+) -> Result<MemoryFolder, AllocError>
     ensures { IfOk result (λ f. f.part ≡ None) }
 {
     let mut held = Vec::new(alloc);
@@ -27,11 +33,22 @@ fn folder(alloc: Global, files: &[(&str, &[u8])], calls: &[u64]) -> Result<Memor
         let bytes = file.1.to_vec(alloc)?;
         held.push((name, bytes))?;
     }
+    let mut names = Vec::new(alloc);
+    for other in others {
+        names.push(String::from_str(alloc, other)?)?;
+    }
     let mut fails = Vec::new(alloc);
     for call in calls {
         fails.push((*call, ErrorKind::StorageFull))?;
     }
-    MemoryFolder::new(alloc, held, fails)
+    MemoryFolder::new(alloc, "folder", held, names, fails)
+}
+
+/// A folder with these files, of which these calls fail.
+fn folder(alloc: Global, files: &[(&str, &[u8])], calls: &[u64]) -> Result<MemoryFolder, AllocError>
+    ensures { IfOk result (λ f. f.part ≡ None) }
+{
+    folder_with(alloc, files, &[], calls)
 }
 
 /// Whether the folder has exactly these files, in this order, each with the bytes of a file of the volume.
@@ -66,6 +83,7 @@ fn copies(
         names,
         folder,
         page: Page::new(rt.alloc(), 44)?,
+        progress: Progress::<MemorySink> { terminal: None },
         ends: Vec::new(rt.alloc()),
     };
     assert!(rt; job.work(rt.alloc(), &mut volume) == went);
@@ -82,6 +100,8 @@ fn name(rt: &impl Abort, text: &[u8]) -> Name {
 const WRITTEN: FileEnd = FileEnd::Kept(Kept::Written);
 
 const WAS_THERE: FileEnd = FileEnd::Kept(Kept::WasThere);
+
+const DIFFERS: FileEnd = FileEnd::Kept(Kept::Differs);
 
 const NOT_WRITTEN: FileEnd = FileEnd::Kept(Kept::NotWritten);
 
@@ -117,6 +137,21 @@ fn the_job_goes_on_after_a_failure(rt: HostRuntime) -> Result<(), Fail> {
         Went::NotAll,
         &ends,
         &[STARTUP],
+    )
+}
+
+/// Something that is no file has the name of one file: the other one is copied.
+#[test]
+fn a_name_is_taken(rt: HostRuntime) -> Result<(), Fail> {
+    let given = volume(&rt, Answer::Listed)?;
+    copies(
+        &rt,
+        given,
+        &[],
+        folder_with(rt.alloc(), &[], &[STARTUP], &[])?,
+        Went::NotAll,
+        &[DIFFERS, WRITTEN],
+        &[A_B],
     )
 }
 
@@ -185,4 +220,24 @@ fn nothing_is_copied(rt: HostRuntime) -> Result<(), Fail> {
         &[],
         &[],
     )
+}
+
+/// A terminal is told which file is copied, and whether it can be written changes nothing.
+#[test]
+fn progress_is_told_on_a_terminal(rt: HostRuntime) -> Result<(), Fail> {
+    for (room, wanted) in [(100, &b"1 of 2 STARTUP\n2 of 2 A,B\n"[..]), (0, b"")] {
+        let mut given = volume(&rt, Answer::Listed)?;
+        let terminal = Some(MemorySink::new(rt.alloc(), room, Vec::new(rt.alloc()))?);
+        let mut job = Copying {
+            names: &[],
+            folder: folder(rt.alloc(), &[], &[])?,
+            page: Page::new(rt.alloc(), 44)?,
+            progress: Progress { terminal },
+            ends: Vec::new(rt.alloc()),
+        };
+        assert!(rt; job.work(rt.alloc(), &mut given) == Went::Done);
+        let told = job.progress.terminal.expect(&rt, "a terminal");
+        assert!(rt; told.written() == wanted);
+    }
+    Ok(())
 }

@@ -4,6 +4,8 @@
 #[cfg(test)]
 mod copies;
 #[cfg(test)]
+mod differences;
+#[cfg(test)]
 mod files;
 #[cfg(test)]
 mod given;

@@ -13,6 +13,10 @@ Jobs:
   out   Copies files from IMAGE into FOLDER
   get   Prints the lines of a text file
   raw   Writes the bytes of a file, as many as its directory entry tells
+  free  Prints how much room IMAGE has
+  map   Prints a picture of the records of IMAGE
+  why   Prints why IMAGE can or cannot be listed and changed
+  diff  Compares the files of IMAGE with those of OTHER
   help  Explains a job, or lists all jobs
 
 Options:
@@ -76,6 +80,56 @@ Options:
       --help  Print this page
 ";
 
+const FREE: &str = "\
+Prints how much room IMAGE has
+
+Usage: tape free IMAGE
+
+Arguments:
+  [IMAGE]  The image file
+
+Options:
+      --help  Print this page
+";
+
+const MAP: &str = "\
+Prints a picture of the records of IMAGE
+
+Usage: tape map [OPTIONS] IMAGE
+
+Arguments:
+  [IMAGE]  The image file
+
+Options:
+      --svg   Write the picture as an SVG file
+      --help  Print this page
+";
+
+const WHY: &str = "\
+Prints why IMAGE can or cannot be listed and changed
+
+Usage: tape why IMAGE
+
+Arguments:
+  [IMAGE]  The image file
+
+Options:
+      --help  Print this page
+";
+
+const DIFF: &str = "\
+Compares the files of IMAGE with those of OTHER
+
+Usage: tape diff IMAGE OTHER
+
+Arguments:
+  [IMAGE]  The image file
+  [OTHER]  The image file that it is compared with
+
+Options:
+      --help  Print this page
+";
+
 const HELP: &str = "\
 Explains a job, or lists all jobs
 
@@ -96,6 +150,10 @@ fn each_page_is_printed(rt: HostRuntime) -> Result<(), Fail> {
         (Some(Topic::Out), OUT),
         (Some(Topic::Get), GET),
         (Some(Topic::Raw), RAW),
+        (Some(Topic::Free), FREE),
+        (Some(Topic::Map), MAP),
+        (Some(Topic::Why), WHY),
+        (Some(Topic::Diff), DIFF),
         (Some(Topic::Help), HELP),
     ] {
         let text = help_text(rt.alloc(), topic)?;

@@ -104,8 +104,25 @@ fn arguments_ask_for_a_file(rt: HostRuntime) -> Result<(), Fail> {
     Ok(())
 }
 
+#[test]
+fn arguments_ask_of_images(rt: HostRuntime) -> Result<(), Fail> {
+    let (image, other) = ("TAPE", "B");
+    let wanted = [
+        ("free TAPE", Job::Free { image }),
+        ("map TAPE", Job::Map { svg: false, image }),
+        ("map --svg TAPE", Job::Map { svg: true, image }),
+        ("map TAPE --svg", Job::Map { svg: true, image }),
+        ("why -- TAPE", Job::Why { image }),
+        ("diff TAPE B", Job::Diff { image, other }),
+    ];
+    for (text, job) in wanted {
+        assert!(rt; asks(rt.alloc(), text, job)?, "{text}");
+    }
+    Ok(())
+}
+
 /// Arguments, and the job that they ask to explain.
-const HELPS: [(&str, Option<Topic>); 16] = [
+const HELPS: [(&str, Option<Topic>); 20] = [
     ("help", None),
     ("--help", None),
     ("--help --version", None),
@@ -120,6 +137,10 @@ const HELPS: [(&str, Option<Topic>); 16] = [
     ("get --help", Some(Topic::Get)),
     ("help raw", Some(Topic::Raw)),
     ("raw TAPE --help", Some(Topic::Raw)),
+    ("help free", Some(Topic::Free)),
+    ("map --svg --help", Some(Topic::Map)),
+    ("why --help", Some(Topic::Why)),
+    ("help diff", Some(Topic::Diff)),
     ("help help", Some(Topic::Help)),
     ("help --help dir", Some(Topic::Help)),
 ];
@@ -154,7 +175,7 @@ fn refusal(alloc: Global, words: &[String]) -> Result<Option<String>, AllocError
 }
 
 /// Arguments that are refused, and how the message begins.
-const REFUSED: [(&str, &str); 29] = [
+const REFUSED: [(&str, &str); 34] = [
     (
         "",
         "Does one job with image files of HP-IL tapes and discs\n",
@@ -190,6 +211,23 @@ const REFUSED: [(&str, &str); 29] = [
     (
         "raw TAPE",
         "tape: raw needs IMAGE and NAME; 'tape help raw' explains it\n",
+    ),
+    (
+        "free",
+        "tape: free needs IMAGE; 'tape help free' explains it\n",
+    ),
+    (
+        "map --svg",
+        "tape: map needs IMAGE; 'tape help map' explains it\n",
+    ),
+    (
+        "diff TAPE",
+        "tape: diff needs IMAGE and OTHER; 'tape help diff' explains it\n",
+    ),
+    ("why TAPE B", "tape: unexpected argument 'B' found\n"),
+    (
+        "free --svg TAPE",
+        "tape: unexpected argument '--svg' found\n",
     ),
     ("get TAPE A B", "tape: unexpected argument 'B' found\n"),
     ("raw TAPE A B", "tape: unexpected argument 'B' found\n"),

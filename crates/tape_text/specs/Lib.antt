@@ -2,3 +2,6 @@ pub mod Listing
 pub mod Columns
 pub mod Rows
 pub mod Texts
+pub mod Free
+pub mod Map
+pub mod Picture

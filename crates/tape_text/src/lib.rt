@@ -1,16 +1,24 @@
-//! What `tape` prints: the listing of a volume in columns or as rows of CSV, and the lines of a text file.
+//! What `tape` prints: the listing of a volume in columns or as rows of CSV, what is free of it, its records as a map
+//! or as a picture, and the lines of a text file.
 #![tactic(auto)]
 
 mod cells;
 mod columns;
 mod dates;
+mod free;
+mod holders;
 mod lines;
+mod map;
+mod picture;
 mod shown;
 mod table;
 mod texts;
 mod volume;
 
 pub use cells::WIDEST;
+pub use free::free_text;
 pub use lines::{LINE, listing, put_listing};
+pub use map::map_text;
+pub use picture::picture_text;
 pub use table::{csv_rows, first_csv_row};
 pub use texts::{put_text, text_size};

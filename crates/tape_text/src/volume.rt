@@ -88,7 +88,7 @@ fn room_of(size: u16, header: &Header, slots: &SlotTable) -> Room
 
 /// Appends a number with a noun of at most 6 letters, which ends in `s` if the number is not 1.
 #[tactic(auto, unfolding(crate::specs::Listing::plural_of))]
-fn put_counted(page: &mut Page, number: u32, noun: &[u8])
+pub(crate) fn put_counted(page: &mut Page, number: u32, noun: &[u8])
     requires noun { length noun.now ≤ 6 }
     requires room { length page.old.text + 18 ≤ page.old.room }
     ensures text { page.new ≡ record page.old { text = page.old.text ++ plural_of number noun.now } }

@@ -3,7 +3,7 @@ use Rattle.std.proofs.Common.{◌≡◌, [], ◌∷◌, Some, None, true, false,
 use Rattle.clap.proofs.OnLiterals.{clap_on_literals}
 use Rattle.tape_words.specs.declared.jobs.Topic.TheVariants as topic
 use Rattle.tape_words.specs.Simple.{tape_app}
-use Rattle.tape_words.specs.Asked.{Dir, Out, Get, Raw, Help, Version, arguments_in}
+use Rattle.tape_words.specs.Asked.{Dir, Out, Get, Raw, Free, Map, Why, Diff, Help, Version, arguments_in}
 
 listing : arguments_in (codes "dir" ∷ codes "TAPE" ∷ []) ≡ Some (Dir false false (codes "TAPE" ∷ []))
 unfolding tape_app clap_on_literals
@@ -35,6 +35,24 @@ no_files : (arguments_in (codes "out" ∷ codes "TAPE" ∷ []) ≡ None) × (arg
     × (arguments_in (codes "raw" ∷ codes "TAPE" ∷ []) ≡ None) × (arguments_in (codes "get" ∷ codes "TAPE" ∷ codes "A" ∷ codes "B" ∷ []) ≡ None)
 unfolding tape_app clap_on_literals
 no_files = (refl, refl, refl, refl)
+
+one_image : (arguments_in (codes "free" ∷ codes "TAPE" ∷ []) ≡ Some (Free (codes "TAPE")))
+    × (arguments_in (codes "why" ∷ codes "TAPE" ∷ []) ≡ Some (Why (codes "TAPE")))
+    × (arguments_in (codes "map" ∷ codes "TAPE" ∷ []) ≡ Some (Map false (codes "TAPE")))
+    × (arguments_in (codes "map" ∷ codes "TAPE" ∷ codes "--svg" ∷ []) ≡ Some (Map true (codes "TAPE")))
+unfolding tape_app clap_on_literals
+one_image = (refl, refl, refl, refl)
+
+-- no image, a second one, and an option of another job
+no_images : (arguments_in (codes "free" ∷ []) ≡ None) × (arguments_in (codes "free" ∷ codes "A" ∷ codes "B" ∷ []) ≡ None)
+    × (arguments_in (codes "why" ∷ codes "--svg" ∷ codes "A" ∷ []) ≡ None)
+unfolding tape_app clap_on_literals
+no_images = (refl, refl, refl)
+
+two_images : (arguments_in (codes "diff" ∷ codes "A" ∷ codes "B" ∷ []) ≡ Some (Diff (codes "A") (codes "B")))
+    × (arguments_in (codes "diff" ∷ codes "A" ∷ []) ≡ None)
+unfolding tape_app clap_on_literals
+two_images = (refl, refl)
 
 helps : (arguments_in (codes "help" ∷ []) ≡ Some (Help None)) × (arguments_in (codes "--help" ∷ []) ≡ Some (Help None))
     × (arguments_in (codes "help" ∷ codes "dir" ∷ []) ≡ Some (Help (Some topic.Dir)))

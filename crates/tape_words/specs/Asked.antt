@@ -23,6 +23,14 @@ pub data Wanted : Type 0 where
   Get : (image name : Text) → Wanted
   -- the bytes of a file
   Raw : (image name : Text) → Wanted
+  -- how much room the image has
+  Free : (image : Text) → Wanted
+  -- a picture of the records of the image, as an SVG file or not
+  Map : (svg : Bool) (image : Text) → Wanted
+  -- why the image can or cannot be listed and changed
+  Why : (image : Text) → Wanted
+  -- how the files of the two images differ
+  Diff : (image other : Text) → Wanted
   -- an explanation of one job, or of the program
   Help : (topic : Option Topic) → Wanted
   Version : Wanted
@@ -34,6 +42,10 @@ topic_in name =
     else if bytes_eq name (codes "out") then Some topic.Out
     else if bytes_eq name (codes "get") then Some topic.Get
     else if bytes_eq name (codes "raw") then Some topic.Raw
+    else if bytes_eq name (codes "free") then Some topic.Free
+    else if bytes_eq name (codes "map") then Some topic.Map
+    else if bytes_eq name (codes "why") then Some topic.Why
+    else if bytes_eq name (codes "diff") then Some topic.Diff
     else if bytes_eq name (codes "help") then Some topic.Help
     else None
 
@@ -55,6 +67,10 @@ asked_for topic.Out rows =
     option_map (λ p. Out p.0 p.1 (unwrap_or (all_of (codes "names") rows) [])) (pair_in (codes "image") (codes "folder") rows)
 asked_for topic.Get rows = option_map (λ p. Get p.0 p.1) (pair_in (codes "image") (codes "name") rows)
 asked_for topic.Raw rows = option_map (λ p. Raw p.0 p.1) (pair_in (codes "image") (codes "name") rows)
+asked_for topic.Free rows = option_map Free (first_of (codes "image") rows)
+asked_for topic.Map rows = option_map (Map (is_switched_on (codes "svg") rows)) (first_of (codes "image") rows)
+asked_for topic.Why rows = option_map Why (first_of (codes "image") rows)
+asked_for topic.Diff rows = option_map (λ p. Diff p.0 p.1) (pair_in (codes "image") (codes "other") rows)
 asked_for topic.Help rows = help_in (first_of (codes "job") rows)
 
 -- the job of this name; its `--help` goes before its other arguments
@@ -87,6 +103,10 @@ job_asked (job.Dir all csv images) = Dir all csv (map (λ s. s.now) images.now)
 job_asked (job.Out image folder names) = Out image.now folder.now (map (λ s. s.now) names.now)
 job_asked (job.Get image name) = Get image.now name.now
 job_asked (job.Raw image name) = Raw image.now name.now
+job_asked (job.Free image) = Free image.now
+job_asked (job.Map svg image) = Map svg image.now
+job_asked (job.Why image) = Why image.now
+job_asked (job.Diff image other) = Diff image.now other.now
 job_asked (job.Help topic) = Help topic
 job_asked job.Version = Version
 

@@ -43,6 +43,20 @@ abbrev pub file_app : Text → App
 file_app job = with_rule (with_rule (with_rule (plain_app job) (one_rule (codes "image"))) (one_rule (codes "name")))
     (switch_rule (codes "help"))
 
+-- a job on one image, as `free [--help] IMAGE`
+abbrev pub image_app : Text → App
+image_app job = with_rule (with_rule (plain_app job) (one_rule (codes "image"))) (switch_rule (codes "help"))
+
+-- `map [--svg] [--help] IMAGE`
+abbrev pub map_app : App
+map_app = with_rule (with_rule (with_rule (plain_app (codes "map")) (one_rule (codes "image"))) (switch_rule (codes "svg")))
+    (switch_rule (codes "help"))
+
+-- `diff [--help] IMAGE OTHER`
+abbrev pub diff_app : App
+diff_app = with_rule (with_rule (with_rule (plain_app (codes "diff")) (one_rule (codes "image"))) (one_rule (codes "other")))
+    (switch_rule (codes "help"))
+
 -- `help [--help] [JOB]`
 abbrev pub help_app : App
 help_app = with_rule (with_rule (plain_app (codes "help")) (one_rule (codes "job"))) (switch_rule (codes "help"))
@@ -52,6 +66,10 @@ app_for topic.Dir = dir_app
 app_for topic.Out = out_app
 app_for topic.Get = file_app (codes "get")
 app_for topic.Raw = file_app (codes "raw")
+app_for topic.Free = image_app (codes "free")
+app_for topic.Map = map_app
+app_for topic.Why = image_app (codes "why")
+app_for topic.Diff = diff_app
 app_for topic.Help = help_app
 
 -- the command of the program, whose arguments do not begin with its name
@@ -62,9 +80,14 @@ top_app = let a : App = plain_app (codes "tape") in record a { top = record (a.t
 abbrev pub program_app : App
 program_app = with_rule (with_rule top_app (switch_rule (codes "help"))) (switch_rule (codes "version"))
 
+-- the command with the jobs that read files, and with those that tell of images too
+abbrev pub reading_app : App
+reading_app = with_subcommand (with_subcommand (with_subcommand (with_subcommand program_app
+    (app_for topic.Dir).top) (app_for topic.Out).top) (app_for topic.Get).top) (app_for topic.Raw).top
+
 unfoldable pub tape_app : App
-tape_app = with_subcommand (with_subcommand (with_subcommand (with_subcommand (with_subcommand program_app
-    (app_for topic.Dir).top) (app_for topic.Out).top) (app_for topic.Get).top) (app_for topic.Raw).top) (app_for topic.Help).top
+tape_app = with_subcommand (with_subcommand (with_subcommand (with_subcommand (with_subcommand reading_app
+    (app_for topic.Free).top) (app_for topic.Map).top) (app_for topic.Why).top) (app_for topic.Diff).top) (app_for topic.Help).top
 
 -- what a page of help explains: one job, or the program
 abbrev pub page_app : Option Topic → App

@@ -141,6 +141,23 @@ fn job_for<'r, 'a>(topic: Topic, found: &'r ArgMatches<'a>) -> Option<Job<'r>>
             let (image, name) = pair(found, "image", "name")?;
             Some(Job::Raw { image, name })
         }
+        Topic::Free => {
+            let image = value(found, "image")?;
+            Some(Job::Free { image })
+        }
+        Topic::Map => {
+            let image = value(found, "image")?;
+            let svg = is_switched_on(found, "svg");
+            Some(Job::Map { svg, image })
+        }
+        Topic::Why => {
+            let image = value(found, "image")?;
+            Some(Job::Why { image })
+        }
+        Topic::Diff => {
+            let (image, other) = pair(found, "image", "other")?;
+            Some(Job::Diff { image, other })
+        }
         Topic::Help => help_for(value(found, "job")),
     }
 }

@@ -39,6 +39,8 @@ fn needs(topic: Topic) -> &'static str {
         Topic::Dir => "at least one IMAGE",
         Topic::Out => "IMAGE and FOLDER",
         Topic::Get | Topic::Raw => "IMAGE and NAME",
+        Topic::Free | Topic::Map | Topic::Why => "IMAGE",
+        Topic::Diff => "IMAGE and OTHER",
         Topic::Help => "no argument",
     }
 }

@@ -12,6 +12,14 @@ pub enum Topic {
     Get,
     /// `tape raw`.
     Raw,
+    /// `tape free`.
+    Free,
+    /// `tape map`.
+    Map,
+    /// `tape why`.
+    Why,
+    /// `tape diff`.
+    Diff,
     /// `tape help`.
     Help,
 }
@@ -51,6 +59,30 @@ pub enum Job<'a> {
         /// The name of the file.
         name: &'a str,
     },
+    /// Prints how much room an image has.
+    Free {
+        /// The name of the image.
+        image: &'a str,
+    },
+    /// Prints a picture of the records of an image.
+    Map {
+        /// Whether the picture is an SVG file.
+        svg: bool,
+        /// The name of the image.
+        image: &'a str,
+    },
+    /// Prints why an image can or cannot be listed and changed.
+    Why {
+        /// The name of the image.
+        image: &'a str,
+    },
+    /// Compares the files of two images.
+    Diff {
+        /// The name of the first image.
+        image: &'a str,
+        /// The name of the second image.
+        other: &'a str,
+    },
     /// Explains one job, or the whole program if there is no topic.
     Help {
         /// The job that is explained.
@@ -75,6 +107,18 @@ pub(crate) fn topic_of(name: &str) -> Option<Topic>
     }
     if name == "raw" {
         return Some(Topic::Raw);
+    }
+    if name == "free" {
+        return Some(Topic::Free);
+    }
+    if name == "map" {
+        return Some(Topic::Map);
+    }
+    if name == "why" {
+        return Some(Topic::Why);
+    }
+    if name == "diff" {
+        return Some(Topic::Diff);
     }
     if name == "help" {
         return Some(Topic::Help);

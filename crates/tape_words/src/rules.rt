@@ -2,7 +2,8 @@ ghost use Rattle.std.specs.Prelude.{◌≡◌, IfOk, false};
 ghost use Rattle.clap.specs.Words.{app_of, rule_of};
 ghost use Rattle.clap.specs.declared.builder.command.Command.TheViews.{out-Command};
 ghost use Rattle.tape_words.specs.Simple.{switch_rule, one_rule, several_rule};
-ghost use Rattle.tape_words.specs.Simple.{plain_app, dir_app, out_app, file_app, help_app, app_for};
+ghost use Rattle.tape_words.specs.Simple.{plain_app, dir_app, out_app, file_app, image_app, map_app, diff_app, help_app};
+ghost use Rattle.tape_words.specs.Simple.{app_for};
 ghost use Rattle.tape_words.specs.Simple.{top_app, program_app, tape_app, page_app};
 
 use crate::jobs::Topic;
@@ -122,6 +123,59 @@ fn file<'a>(
     Ok(command)
 }
 
+/// The command of a job on one image.
+fn image<'a>(
+    alloc: Global,
+    job: &'a str,
+    about: &'a str,
+    usage: &'a str,
+) -> Result<Command<'a>, AllocError>
+    ensures app { IfOk result (λ c. app_of c ≡ image_app job.entry.now) }
+    ensures local { IfOk result (λ c. (out-Command c).has_globals ≡ false) }
+{
+    let command = plain(alloc, job, about, usage)
+        .arg(one(alloc, "image", "IMAGE", IMAGE_HELP))?
+        .arg(flag(alloc, "help", "Print this page"))?;
+    Ok(command)
+}
+
+fn map<'a>(alloc: Global) -> Result<Command<'a>, AllocError>
+    ensures app { IfOk result (λ c. app_of c ≡ map_app) }
+    ensures local { IfOk result (λ c. (out-Command c).has_globals ≡ false) }
+{
+    let command = plain(
+        alloc,
+        "map",
+        "Prints a picture of the records of IMAGE",
+        "tape map [OPTIONS] IMAGE",
+    )
+    .arg(one(alloc, "image", "IMAGE", IMAGE_HELP))?
+    .arg(flag(alloc, "svg", "Write the picture as an SVG file"))?
+    .arg(flag(alloc, "help", "Print this page"))?;
+    Ok(command)
+}
+
+fn diff<'a>(alloc: Global) -> Result<Command<'a>, AllocError>
+    ensures app { IfOk result (λ c. app_of c ≡ diff_app) }
+    ensures local { IfOk result (λ c. (out-Command c).has_globals ≡ false) }
+{
+    let command = plain(
+        alloc,
+        "diff",
+        "Compares the files of IMAGE with those of OTHER",
+        "tape diff IMAGE OTHER",
+    )
+    .arg(one(alloc, "image", "IMAGE", IMAGE_HELP))?
+    .arg(one(
+        alloc,
+        "other",
+        "OTHER",
+        "The image file that it is compared with",
+    ))?
+    .arg(flag(alloc, "help", "Print this page"))?;
+    Ok(command)
+}
+
 fn help<'a>(alloc: Global) -> Result<Command<'a>, AllocError>
     ensures app { IfOk result (λ c. app_of c ≡ help_app) }
     ensures local { IfOk result (λ c. (out-Command c).has_globals ≡ false) }
@@ -157,6 +211,20 @@ pub(crate) fn job_command<'a>(alloc: Global, topic: Topic) -> Result<Command<'a>
             "Writes the bytes of a file, as many as its directory entry tells",
             "tape raw IMAGE NAME",
         ),
+        Topic::Free => image(
+            alloc,
+            "free",
+            "Prints how much room IMAGE has",
+            "tape free IMAGE",
+        ),
+        Topic::Map => map(alloc),
+        Topic::Why => image(
+            alloc,
+            "why",
+            "Prints why IMAGE can or cannot be listed and changed",
+            "tape why IMAGE",
+        ),
+        Topic::Diff => diff(alloc),
         Topic::Help => help(alloc),
     }
 }
@@ -195,6 +263,10 @@ pub(crate) fn command<'a>(alloc: Global) -> Result<Command<'a>, AllocError>
         .subcommand(job_command(alloc, Topic::Out)?)?
         .subcommand(job_command(alloc, Topic::Get)?)?
         .subcommand(job_command(alloc, Topic::Raw)?)?
+        .subcommand(job_command(alloc, Topic::Free)?)?
+        .subcommand(job_command(alloc, Topic::Map)?)?
+        .subcommand(job_command(alloc, Topic::Why)?)?
+        .subcommand(job_command(alloc, Topic::Diff)?)?
         .subcommand(job_command(alloc, Topic::Help)?)?;
     Ok(command)
 }

@@ -9,7 +9,7 @@ returns g c =
       drive_now = did.result.1.medium;
       empty = c.requires.empty;
       ending = did.result.0;
-      ends = ends_with _ _ _ _ did.result.0 c.args.image.now (g.M.Medium.view c.args.drive) (g.M.Medium.view did.result.1.medium)
+      ends = ends_with _ _ _ _ _ did.result.0 c.args.image.now (g.M.Medium.view c.args.drive) (g.M.Medium.view did.result.1.medium)
           (λ same. (ap (λ job. g.K.Sink.written job.out) same, ap (λ job. g.K.Sink.faults job.out) same)) did.ensures;
       status_is = c.status.ensures;
       says = c.write_file_ending.ensures;

@@ -2,12 +2,14 @@ use Rattle.std.proofs.Common.{◌≡◌, ◌++◌, ◌∷◌, ◌∙◌, ◌+◌
 use Rattle.lif_dir.specs.declared.entries.Name.{Name}
 use Rattle.tape.specs.Names.{names_spelt}
 use Rattle.tape_jobs.proofs.Copies.{pushed}
-use Rattle.tape.proofs.Spelt.{names_more, no_names, with_names}
+use Rattle.tape.proofs.Spelt.{first_unspelt, names_more, no_names, unspelt_more, with_names}
 use Rattle.tape.proofs.names.names_spelt.Goals as goal
 
 pub returns-in-None-clause-refused : goal.returns-in-None-clause-refused
-returns-in-None-clause-refused c =
-    no_names c.args.texts.now c.texts.text-index _ c.texts-test.true c.texts.names.items c.name_spelt.result c.name_spelt.ensures c.in-None.is c.texts.invariant.read
+returns-in-None-clause-refused c = (
+  no_names c.args.texts.now c.texts.text-index _ c.texts-test.true c.texts.names.items c.name_spelt.result c.name_spelt.ensures c.in-None.is c.texts.invariant.read,
+  first_unspelt c.args.texts.now c.texts.text-index _ c.texts-test.true c.name_spelt.result c.name_spelt.ensures c.in-None.is c.texts.invariant.first,
+)
 
 pub texts-preserved : goal.texts-preserved
 texts-preserved c =
@@ -19,6 +21,7 @@ texts-preserved c =
     record {
       read = ap (λ (names : List Name). with_names names (names_spelt (drop (c.texts.text-index + 1) (map (λ text. text.now) c.args.texts.now)))) more
           ∙ names_more c.args.texts.now c.texts.text-index _ c.texts-test.true c.texts.names.items c.in-Some.name c.name_spelt.result c.name_spelt.ensures c.in-Some.is held.read;
+      first = unspelt_more c.args.texts.now c.texts.text-index _ c.texts-test.true c.in-Some.name c.name_spelt.result c.name_spelt.ensures c.in-Some.is held.first;
       room = omega (arith, long, both, count);
       space = search rules;
     }

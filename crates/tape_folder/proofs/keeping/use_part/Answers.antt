@@ -8,7 +8,7 @@ returns-in-Ok g c =
     record {
       text = (v c.fill_part.new.folder).written;
       text_is = c.in-Ok.ensures.answer_is.1;
-      ends = ends_after c.args.name.now _ (v c.args.folder.now) (v c.fill_part.new.folder) (v c.name_part.new.folder) c.name_part.result c.fill_part.ensures.part c.fill_part.ensures.steps c.name_part.ensures;
+      ends = ends_after c.args.name.now _ (v c.args.folder.now) (v c.fill_part.new.folder) (v c.name_part.new.folder) c.name_part.result (g.met.F.Folder.is_folder c.args.folder.now) c.requires.plain c.fill_part.ensures.part c.fill_part.ensures.steps c.name_part.ensures;
     }
 
 pub returns-in-Err : goal.returns-in-Err

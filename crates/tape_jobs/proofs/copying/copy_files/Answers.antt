@@ -1,6 +1,15 @@
-use Rattle.std.proofs.Common.{◌∙◌}
+use Rattle.std.proofs.Common.{◌∙◌, List, sym, subst}
+use Rattle.tape_jobs.specs.Out.{Copied, has_fault}
+use Rattle.tape_jobs.specs.declared.copying.Taken.{Taken}
 use Rattle.tape_jobs.proofs.Copies.{copied_around, copied_quiet}
 use Rattle.tape_jobs.proofs.copying.copy_files.Goals as goal
+
+pub returns-then-is_err-clause-copied : goal.returns-then-is_err-clause-copied
+returns-then-is_err-clause-copied g c =
+    let v = g.V.Volumes.seen c.args.volumes.now in
+    let f = g.F.Folder.view in
+    subst (λ (ends : List Taken). Copied (has_fault ends) ends v.mounted v.mounted (f c.args.folder.now) (f c.prepare.new.self)) (sym c.requires.empty)
+    (copied_quiet v.mounted _ _ (g.met.F.Folder.is_folder c.args.folder.now) (c.prepare.ensures.part.part ∙ c.requires.closed) c.prepare.ensures.goes_on)
 
 pub returns-then-is_err-2-clause-copied : goal.returns-then-is_err-2-clause-copied
 returns-then-is_err-2-clause-copied g c =

@@ -11,4 +11,8 @@ returns c =
     let two = c.in_ok-subcommand-2.ensures.shape c.in_ok-job_command-2.ensures.local ∙ ap₂ with_subcommand one (ap top c.in_ok-job_command-2.ensures.app) in
     let three = c.in_ok-subcommand-3.ensures.shape c.in_ok-job_command-3.ensures.local ∙ ap₂ with_subcommand two (ap top c.in_ok-job_command-3.ensures.app) in
     let four = c.in_ok-subcommand-4.ensures.shape c.in_ok-job_command-4.ensures.local ∙ ap₂ with_subcommand three (ap top c.in_ok-job_command-4.ensures.app) in
-    c.in_ok-command.ensures.shape c.in_ok-job_command-5.ensures.local ∙ ap₂ with_subcommand four (ap top c.in_ok-job_command-5.ensures.app)
+    let five = c.in_ok-subcommand-5.ensures.shape c.in_ok-job_command-5.ensures.local ∙ ap₂ with_subcommand four (ap top c.in_ok-job_command-5.ensures.app) in
+    let six = c.in_ok-subcommand-6.ensures.shape c.in_ok-job_command-6.ensures.local ∙ ap₂ with_subcommand five (ap top c.in_ok-job_command-6.ensures.app) in
+    let seven = c.in_ok-subcommand-7.ensures.shape c.in_ok-job_command-7.ensures.local ∙ ap₂ with_subcommand six (ap top c.in_ok-job_command-7.ensures.app) in
+    let eight = c.in_ok-subcommand-8.ensures.shape c.in_ok-job_command-8.ensures.local ∙ ap₂ with_subcommand seven (ap top c.in_ok-job_command-8.ensures.app) in
+    c.in_ok-command.ensures.shape c.in_ok-job_command-9.ensures.local ∙ ap₂ with_subcommand eight (ap top c.in_ok-job_command-9.ensures.app)

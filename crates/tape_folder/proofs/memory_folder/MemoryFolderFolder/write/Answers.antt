@@ -15,7 +15,7 @@ returns-in-None c =
     (subst (λ f. FilesBut (part_named c.args.self.now.part) (images_of f.items) (images_of c.append.new.self.files.items)) before
     (subst (λ p. FilesBut (part_named p) (images_of c.ask.new.self.files.items) (images_of c.append.new.self.files.items)) part c.append.ensures.others)) in
     record {
-      goes_on = part_goes_on _ _ _ _ _ _ _ _ _ _ _ _ _ _ _ _ but (search rules) (search rules) (search rules) (search rules);
+      goes_on = part_goes_on _ _ _ _ _ _ _ _ _ _ _ _ _ _ _ _ _ _ _ _ (search rules) (search rules) but (search rules) (search rules) (search rules) (search rules);
       part = search rules;
       unsynced = search rules;
       cause = search rules;

@@ -1,0 +1,13 @@
+use Rattle.std.proofs.Common.{subst}
+use Rattle.std.specs.Prelude.{Ok}
+use Rattle.il_ports.specs.Media.{DidInsert}
+use Rattle.il_ports.specs.declared.medium.New.TheVariants as making
+use Rattle.tape.proofs.Wholes.{read_whole}
+use Rattle.tape.proofs.whole.read_image.Goals as goal
+
+pub returns-in-Ok : goal.returns-in-Ok
+returns-in-Ok g c =
+    let v = g.M.Medium.view c.args.medium.now in
+    let m = g.M.Medium.view c.insert.new.self in
+    let did = subst (λ a. DidInsert c.args.name.now making.No v m (Ok a)) c.in-Ok-Tape.field-0-is c.in-Ok-Tape.ensures.did in
+    read_whole c.args.name.now c.in-Ok.bytes.items v m (g.M.Medium.view c.read_tape.new.medium) did c.in-Ok.ensures

@@ -1,0 +1,49 @@
+//! Images that are read whole.
+ghost use Rattle.std.specs.Prelude.{◌≡◌, None};
+ghost use Rattle.lif_model.specs.Shelf.{IsSize};
+ghost use Rattle.tape.specs.WholeImages.{ReadsAllRecords, ReadsWhole};
+
+use il_ports::{Inserted, Medium, New};
+use std::alloc::Global;
+use tape_jobs::Went;
+use tape_says::Ending;
+
+/// The bytes of a record.
+const RECORD: usize = 256;
+
+/// Reads all records of the tape that is in the drive, or says how the job goes without them.
+fn read_tape<M: Medium>(alloc: Global, medium: &mut M) -> Result<Vec<u8>, Went>
+    requires size { IsSize (M.view medium.old).record_count }
+    ensures { ReadsAllRecords (M.view medium.old) (M.view medium.new) result }
+{
+    let size = medium.size();
+    let Ok(mut bytes) = Vec::with_capacity(alloc, RECORD * usize::from(size)) else {
+        return Err(Went::OutOfMemory);
+    };
+    let mut record = [0; RECORD];
+    'records: for n in 0..size {
+        if medium.read(n, &mut record).is_err() {
+            return Err(Went::Fault);
+        }
+        bytes.extend_from_slice(&record).unwrap();
+    }
+    Ok(bytes)
+}
+
+/// Reads the image of that name whole, in an empty drive. The bytes are those of its tape or disc, which ends in zeros
+/// if the image is shorter.
+pub fn read_image<M: Medium>(alloc: Global, medium: &mut M, name: &str) -> Result<Vec<u8>, Ending>
+    requires empty { (M.view medium.old).record_count ≡ 0 }
+    ensures { ReadsWhole (M.refuses medium.old medium.new name.now None) name.now
+        (M.view medium.old) (M.view medium.new) result }
+{
+    match medium.insert(name, New::No) {
+        Ok(Inserted::Tape) => match read_tape(alloc, medium) {
+            Ok(bytes) => Ok(bytes),
+            Err(went) => Err(Ending::Went(went)),
+        },
+        Ok(Inserted::NoSuch) => Err(Ending::NoImage),
+        Ok(Inserted::BadSize(_)) => Err(Ending::ImageTooLarge),
+        Err(_) => Err(Ending::NotOpened),
+    }
+}

@@ -1,0 +1,4 @@
+pub mod Endings
+pub mod Messages
+pub mod Outputs
+pub mod CopyMessages

@@ -1,0 +1,4 @@
+pub mod Defects
+pub mod Readings
+pub mod Searches
+pub mod Why
