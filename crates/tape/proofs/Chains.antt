@@ -29,6 +29,34 @@ all_more ends e = list_all-append is_done ends (e ∷ []) ∙ ap (λ (b : Bool).
     and_true true = refl
     and_true false = refl
 
+by_first : (e : Ending) (ends : List Ending) (last : Bool) → is_last e ≡ last → find is_last (e ∷ ends) ≡ None → (last ≡ false) × (find is_last ends ≡ None)
+by_first e ends true is none = let clash : Some e ≡ None = sym (rw is refl) ∙ none in cc
+by_first e ends false is none = (refl, sym (rw is refl) ∙ none)
+
+-- an ending that is the job's is the last one
+last_only : (ends : List Ending) (final : Ending) (before : List Ending) (e : Ending) (after : List Ending) → ends ++ final ∷ [] ≡ before ++ e ∷ after → find is_last ends ≡ None → is_last e ≡ true → after ≡ []
+last_only [] final [] e after same none last = cc
+last_only [] final (b ∷ []) e after same none last = cc
+last_only [] final (b ∷ c ∷ before) e after same none last = cc
+last_only (f ∷ ends) final [] e after same none last =
+    let head : f ≡ e = cc in
+    let is : is_last f ≡ true = ap is_last head ∙ last in
+    let clash : Some f ≡ None = sym (rw is refl) ∙ none in cc
+last_only (f ∷ ends) final (b ∷ before) e after same none last =
+    let tail : ends ++ final ∷ [] ≡ before ++ e ∷ after = cc in
+    last_only ends final before e after tail (by_first f ends (is_last f) refl none).1 last
+
+none_last : (ends : List Ending) (before : List Ending) (e : Ending) (after : List Ending) → ends ≡ before ++ e ∷ after → find is_last ends ≡ None → is_last e ≡ true → after ≡ []
+none_last [] [] e after same none last = cc
+none_last [] (b ∷ before) e after same none last = cc
+none_last (f ∷ ends) [] e after same none last =
+    let head : f ≡ e = cc in
+    let is : is_last f ≡ true = ap is_last head ∙ last in
+    let clash : Some f ≡ None = sym (rw is refl) ∙ none in cc
+none_last (f ∷ ends) (b ∷ before) e after same none last =
+    let tail : ends ≡ before ++ e ∷ after = cc in
+    none_last ends before e after tail (by_first f ends (is_last f) refl none).1 last
+
 -- all images were listed
 status_at_end : (count : ℕ) (ends : List Ending) (done : Bool) → ((count == 1) ≡ true → ends ≡ []) → find is_last ends ≡ None → done ≡ list_all is_done ends
     → (if done then 0 else 1) ≡ status_for count ends
@@ -93,6 +121,7 @@ module _ {M : Type 0} (drives : DriveSight M) (csv all : Bool) (names : List (Li
     ends = sofar.ends;
     listed = sofar.listed;
     whole = λ none. refl;
+    ended = λ before e after same last. none_last sofar.ends before e after same sofar.none last;
     status_is = status_at_end (length names) sofar.ends done sofar.one sofar.none sofar.done_is;
   }
 
@@ -111,6 +140,7 @@ module _ {M : Type 0} (drives : DriveSight M) (csv all : Bool) (names : List (Li
     ends = sofar.ends ++ e ∷ [];
     listed = listed_more first sofar.ends name e old between now sofar.listed listed;
     whole = λ none. by why none;
+    ended = λ before f after same last. last_only sofar.ends e before f after same sofar.none last;
     status_is = status_early (length names) sofar.ends e sofar.one sofar.none why;
   }
     where

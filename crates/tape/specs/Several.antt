@@ -53,7 +53,7 @@ abbrev pub status_for : ℕ → List Ending → ℕ
 status_for count (e ∷ []) = if count == 1 then ending_status e else status_of_all (e ∷ [])
 status_for count ends = status_of_all ends
 
--- The images of these names were listed, up to the end, or up to the first on which the job ends.
+-- The images of these names were listed, up to the end, or up to the first one on which the job ends. After that one no image is listed.
 pub record DirsEnd {M : Type 0} (drives : DriveSight M) (csv : Bool) (all : Bool) (names : List (List ℕ)) (status : ℕ) (old now : Written) : Type 0 where
   pub first : List (List ℕ)
   pub rest : List (List ℕ)
@@ -61,6 +61,7 @@ pub record DirsEnd {M : Type 0} (drives : DriveSight M) (csv : Bool) (all : Bool
   pub ends : List Ending
   pub listed : AreListed drives csv (length names) all first ends old now
   pub whole : find is_last ends ≡ None → rest ≡ []
+  pub ended : (before : List Ending) (e : Ending) (after : List Ending) → ends ≡ before ++ e ∷ after → is_last e ≡ true → after ≡ []
   pub status_is : status ≡ status_for (length names) ends
 
 -- The first row of CSV could not be written, and the job ended; or it was written, and the images were listed.

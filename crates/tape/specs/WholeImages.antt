@@ -2,10 +2,12 @@
 use Rattle.std.specs.Prelude.{◌≡◌, ◌≤◌, ◌*◌, ℕ, List, length, Some, None, Result, Ok, Err, Vec}
 use Rattle.std.specs.declared.alloc.Global.{Global}
 use Rattle.lif_model.specs.Causes.{Rose}
+use Rattle.lif_model.specs.Stops.{StandsStill}
 use Rattle.lif_model.specs.Tape.{Tape}
 use Rattle.lif_model.specs.Shelf.{Shelf, bytes_of, image_of, inserted, largest_image}
 use Rattle.il_ports.specs.Media.{MediumView}
 use Rattle.host_model.specs.Leaves.{HasImage}
+use Rattle.il_host.specs.Whole.{MayHaveLeft}
 use Rattle.tape_jobs.specs.declared.went.Went.{Went}
 use Rattle.tape_jobs.specs.declared.went.Went.TheVariants as went
 use Rattle.tape_says.specs.declared.ending.Ending.{Ending}
@@ -20,28 +22,35 @@ pub record TapeIsRead (bytes : List ℕ) (v m : MediumView) : Type 0 where
   pub inside : m.inside ≡ v.inside
   pub shelf : m.shelf ≡ v.shelf
   pub faults : m.faults ≡ v.faults
+  pub since : StandsStill v.left_since m.left_since
 
--- why they were not
+-- why they were not; no record and no image changed
 abbrev pub IsUnreadable : Went → (v m : MediumView) → Type 0
-IsUnreadable went.Fault v m = Rose v.faults m.faults
-IsUnreadable went.OutOfMemory v m = m.faults ≡ v.faults
+IsUnreadable went.Fault v m = Rose v.faults m.faults × (m.tape ≡ v.tape) × (m.shelf ≡ v.shelf)
+IsUnreadable went.OutOfMemory v m = (m.faults ≡ v.faults) × (m.tape ≡ v.tape) × (m.shelf ≡ v.shelf)
 IsUnreadable _ v m = ⊥
 
 abbrev pub ReadsAllRecords : (v m : MediumView) → Result (Vec ℕ Global) Went → Type 0
 ReadsAllRecords v m (Ok bytes) = TapeIsRead bytes.items v m
 ReadsAllRecords v m (Err w) = IsUnreadable w v m
 
--- These are the bytes of the tape that the image of that name reads as, if contracts can see the images. No other image changes.
+-- The image of that name reads as it did, and no other image changes, if contracts can see the images.
+abbrev pub StaysAsRead : (name : List ℕ) (v m : MediumView) → Type 0
+StaysAsRead name v m = (shelf : Shelf) → v.shelf ≡ Some shelf → HasImage name (inserted (image_of name shelf) None) shelf m.shelf
+
+-- These are the bytes of the tape that the image of that name reads as, if contracts can see the images. No image changes, also if the
+-- machine stops meanwhile.
 pub record IsReadWhole (name bytes : List ℕ) (v m : MediumView) : Type 0 where
   pub reads : (shelf : Shelf) → v.shelf ≡ Some shelf → (t : Tape) × (inserted (image_of name shelf) None ≡ Some t) × (bytes ≡ bytes_of t)
-      × HasImage name (Some t) shelf m.shelf
+      × ((x : Tape) → MayHaveLeft v m x → x ≡ t)
+  pub stays : StaysAsRead name v m
   pub fits : length bytes ≤ largest_image
   pub faults : m.faults ≡ v.faults
 
 -- why the image of that name was not read; `refused` says why an insert failed
 abbrev pub IsNotRead : (refused : Type 0) → Ending → (name : List ℕ) (v m : MediumView) → Type 0
-IsNotRead refused (ending.Went went.Fault) name v m = Rose v.faults m.faults
-IsNotRead refused (ending.Went went.OutOfMemory) name v m = m.faults ≡ v.faults
+IsNotRead refused (ending.Went went.Fault) name v m = Rose v.faults m.faults × StaysAsRead name v m
+IsNotRead refused (ending.Went went.OutOfMemory) name v m = (m.faults ≡ v.faults) × StaysAsRead name v m
 IsNotRead refused (ending.Went w) name v m = ⊥
 IsNotRead refused e name v m = JobEnds (λ w s t. ⊥) (λ s x. ⊥) (Unit {0}) refused e name v m
 

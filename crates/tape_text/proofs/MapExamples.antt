@@ -68,7 +68,7 @@ no_room = refl
 -- slots are free after the redo file's, and a new file cannot take them
 no_slot : free_text 70 header (redo ∷ Purged (entry (codes "GONE      ") 0 0 0) ∷ [])
     ≡ codes "volume HP71, 0 files, 0 purged, 6 slots free, 33 records free\n"
-    ++ codes "no file can be added: no slot is free\n"
+    ++ codes "no file can be added: the directory has no slot for it\n"
 unfolding free_on_literals
 no_slot = refl
 

@@ -38,7 +38,7 @@ largest_text records =
 -- by the place of a file of one record, and by the largest file
 abbrev pub addition_by : Place → ℕ → List ℕ
 addition_by (At slot start) largest = largest_text largest
-addition_by place.NoSlot largest = codes "no file can be added: no slot is free\n"
+addition_by place.NoSlot largest = codes "no file can be added: the directory has no slot for it\n"
 addition_by place.NoRoom largest = codes "no file can be added: no record is free where a slot is free\n"
 
 -- which file can be added

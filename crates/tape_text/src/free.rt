@@ -91,7 +91,7 @@ fn put_addition(page: &mut Page, size: u16, header: &Header, slots: &SlotTable)
     }
     match place_for(size, header, slots, 1) {
         Choice::At { .. } => put_largest(page, largest_new(size, header, slots)),
-        Choice::NoSlot => page.put(b"no file can be added: no slot is free\n"),
+        Choice::NoSlot => page.put(b"no file can be added: the directory has no slot for it\n"),
         Choice::NoRoom => page.put(
             b"no file can be added: no record is free where a slot is free\n",
         ),

@@ -10,6 +10,6 @@ returns-in-Ok g c =
       drive = c.args.drive;
       drive_now = c.read_image.new.medium;
       empty = c.requires.empty;
-      read = ⊎_elim (λ short. inl (subst (λ e. IsNotRead (g.M.Medium.refuses c.args.drive c.read_image.new.medium c.args.image.now None) e c.args.image.now v m) (sym short) c.in-Ok.ensures.faults))
+      read = ⊎_elim (λ short. inl (subst (λ e. IsNotRead (g.M.Medium.refuses c.args.drive c.read_image.new.medium c.args.image.now None) e c.args.image.now v m) (sym short) (c.in-Ok.ensures.faults, c.in-Ok.ensures.stays)))
           (λ copied. inr (c.in-Ok.bytes.items, c.in-Ok.ensures, copied)) c.collect_copy.ensures;
     }

@@ -13,4 +13,5 @@ returns g c =
       inside = held.inside;
       shelf = held.shelf;
       faults = held.faults;
+      since = held.since;
     }

@@ -1,6 +1,7 @@
 use Rattle.std.proofs.Common.{◌≡◌, ◌≤◌, ◌*◌, length, take, Some}
 use Rattle.std.specs.Vec.{vec_capacity}
 use Rattle.lif_model.specs.Shelf.{bytes_of}
+use Rattle.lif_model.specs.Stops.{StandsStill}
 use Rattle.lif_model.specs.Tape.{Tape}
 use Rattle.tape.proofs.whole.read_tape.Given as goal
 
@@ -13,5 +14,6 @@ invariant-records g l = record {
   inside : (g.M.Medium.view l.medium).inside ≡ (g.M.Medium.view l.fn.medium).inside;
   shelf : (g.M.Medium.view l.medium).shelf ≡ (g.M.Medium.view l.fn.medium).shelf;
   size : (g.M.Medium.view l.medium).record_count ≡ (g.M.Medium.view l.fn.medium).record_count;
+  since : StandsStill (g.M.Medium.view l.fn.medium).left_since (g.M.Medium.view l.medium).left_since;
   faults : (g.M.Medium.view l.medium).faults ≡ (g.M.Medium.view l.fn.medium).faults;
 }
