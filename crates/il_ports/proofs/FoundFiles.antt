@@ -46,6 +46,7 @@ module _ (v claimed apart measured : FileView) where
           held = c.answers.held access (b.answers.held access (a.held refl));
           apart = c.answers.itself.apart b.apart;
           named = c.answers.named ∙ b.answers.named ∙ a.named;
+          made = λ was. c.answers.itself.made (b.answers.itself.made (a.itself.made was));
           told = ap (λ (o : Option (List ℕ)). is_some o) (rests.kept ∙ sym settled.clean.synced);
         },
         rests.kept ∙ sym settled.clean.synced,

@@ -15,13 +15,14 @@ pub record Claimable (access : Access) (is_settled : Bool) (v : FileView) : Type
   pub settled : is_settled ≡ true → IsSettledFile v
   pub opened : v.opened access
 
--- A file that is ready: it has its name, its lock and a number above those of the standard streams, and a stop leaves
--- what it reads as.
+-- A file that is ready: it has its name, its lock and a number above those of the standard streams, a stop leaves what
+-- it reads as, and it stays made if it was made.
 pub record Ready (access : Access) (v w : FileView) : Type 0 where
   pub settled : IsSettledFile w
   pub held : w.held access
   pub apart : w.apart
   pub named : w.named ≡ v.named
+  pub made : v.made → w.made
   pub told : is_some w.kept ≡ is_some v.seen
 
 -- besides, it reads as before, and it has `count` bytes
@@ -56,6 +57,7 @@ LayingFails v w old new = Rose v.failures w.failures ⊎ Rose (old.failures Name
 -- a new file of `size` zeros
 pub record WasMade (name : List ℕ) (images : Option Shelf) (size : ℕ) (v : FileView) : Type 0 where
   pub fit : IsFit name images Change v
+  pub made : v.made
   pub missing : (s : Shelf) → images ≡ Some s → image_of name s ≡ None
   pub zeros : (s : Shelf) → images ≡ Some s → (b : List ℕ) × (v.kept ≡ Some b) × (length b ≡ size) × ((i : ℕ) → i < size → byte_at b i ≡ 0)
 

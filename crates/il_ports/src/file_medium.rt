@@ -63,9 +63,14 @@ fn lay_out<F: TapeFile, I: Images<F>>(
     Ok(())
 }
 
-/// Makes a file of zeros, which has its full size at once. If it cannot have that size, it is removed again while its
-/// lock is held. If another program has the lock already, the file belongs to that program, and it stays.
-fn make<F: TapeFile + Drop, I: Images<F>>(images: &mut I, name: &str, size: Size) -> io::Result<F>
+/// Makes a file of zeros, which has its full size at once. A look has found nothing of that name; if something has the
+/// name by now, that stays, and the call fails. If the file cannot have that size, it is removed again while its lock is
+/// held. If another program has the lock already, the file belongs to that program, and it stays.
+pub fn make_image<F: TapeFile + Drop, I: Images<F>>(
+    images: &mut I,
+    name: &str,
+    size: Size,
+) -> io::Result<F>
     requires missing { (I.view images.old).was_found name.now look.Missing }
     ensures goes_on { ImagesGoOn (I.view images.old) (I.view images.new) }
     ensures did { IfOk result (λ file. WasMade name.now (I.view images.new).shelf (image_bytes (records_of_size size)) (F.view file)) }
@@ -162,7 +167,7 @@ fn make_file<F: TapeFile + Drop, I: Images<F>>(
     if access == Access::Read {
         return Err(ErrorKind::PermissionDenied.into());
     }
-    Ok(Found::Tape(make(images, name, size)?, size, access))
+    Ok(Found::Tape(make_image(images, name, size)?, size, access))
 }
 
 /// Looks for the image, and opens or makes it.

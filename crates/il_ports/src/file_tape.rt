@@ -100,7 +100,7 @@ impl<F: TapeFile + Drop> FileTape<F> {
     ghost use Rattle.il_ports.specs.FileTapes.{tape_view, ReadFails, WriteFails, StaysOpen, ReachesRecord};
 
     /// The tape in that file, which has the lock for that access, in a drive of which `faults` calls have failed.
-    pub(crate) fn new(file: F, size: Size, access: Access, faults: u64) -> FileTape<F>
+    pub fn new(file: F, size: Size, access: Access, faults: u64) -> FileTape<F>
         requires clean { IsClean (F.view file) }
         requires held { (F.view file).held access }
         requires apart { (F.view file).apart }
@@ -127,6 +127,13 @@ impl<F: TapeFile + Drop> FileTape<F> {
         ensures { result.now ≡ self.now.file }
     {
         &self.file
+    }
+
+    /// The file, of which nothing more is asked as a tape.
+    pub fn into_file(self) -> F
+        ensures { result ≡ self.file }
+    {
+        self.file
     }
 
     /// Reads record `n`, which the tape has. After the file's end its bytes are zeros.

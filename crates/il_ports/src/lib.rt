@@ -18,8 +18,9 @@ mod stream;
 mod tape_file;
 
 pub use adapters::{StdSink, StdSource};
-pub use file_medium::{FileMedium, Opening, ToChange, ToRead};
+pub use file_medium::{FileMedium, Opening, ToChange, ToRead, make_image};
 pub use file_tape::FileTape;
+pub use image::Size;
 pub use images::{Images, Look, Naming};
 pub use medium::{Inserted, Medium, New};
 pub use memory_file::MemoryFile;

@@ -7,9 +7,9 @@ use Rattle.std.proofs.Math.ListN.{get_or-map}
 use Rattle.std.proofs.Math.Seq.{take-length, take-suc}
 use Rattle.std.proofs.lemmas.List.{length-map, nil_from_length, take-append-drop}
 use Rattle.std.proofs.lemmas.List.Folds.{find-append, list_all-append}
-use Rattle.tape_says.specs.declared.ending.Ending.{Ending}
-use Rattle.tape_says.specs.Endings.{is_done, is_last, ending_status}
-use Rattle.tape_says.specs.Outputs.{Written}
+use Rattle.tape_volumes.specs.declared.ending.Ending.{Ending}
+use Rattle.tape_volumes.specs.Endings.{is_done, is_last, ending_status}
+use Rattle.tape_volumes.specs.Outputs.{Written}
 use Rattle.tape.specs.Images.{DriveSight}
 use Rattle.tape.specs.Several.{AreListed, DirsEnd, ImageListed, status_for, status_or}
 

@@ -8,13 +8,13 @@ use Rattle.il_ports.specs.declared.medium.New.TheVariants as making
 use Rattle.il_ring.specs.declared.plan.Planned.{Planned}
 use Rattle.host_model.specs.HostStates.{HostState}
 use Rattle.il_host.specs.Jobs.{Devices, WorkedOver}
-use Rattle.tape_jobs.specs.Volumes.{Mounted}
-use Rattle.tape_jobs.specs.declared.went.Went.{Went}
-use Rattle.tape_jobs.specs.declared.went.Went.TheVariants as went
+use Rattle.tape_volumes.specs.Volumes.{DoneOrNot, Mounted}
+use Rattle.tape_volumes.specs.declared.went.Went.{Went}
+use Rattle.tape_volumes.specs.declared.went.Went.TheVariants as went
 use Rattle.tape.specs.Mounts.{mounted_in}
-use Rattle.tape.specs.Images.{DoneOrNot, JobEnds, WorksOnImage, WorksOnTape, mounted_on}
-use Rattle.tape_says.specs.declared.ending.Ending.{Ending}
-use Rattle.tape_says.specs.declared.ending.Ending.TheVariants as ending
+use Rattle.tape.specs.Images.{JobEnds, WorksOnImage, WorksOnTape, mounted_on}
+use Rattle.tape_volumes.specs.declared.ending.Ending.{Ending}
+use Rattle.tape_volumes.specs.declared.ending.Ending.TheVariants as ending
 
 told_is : (tape : Option Tape) → is_some tape ≡ true → (t : Tape) × (tape ≡ Some t)
 told_is None told = cc

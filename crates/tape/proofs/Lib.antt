@@ -4,3 +4,4 @@ mod Chains
 mod Spelt
 mod Wholes
 mod Performed
+mod Purged

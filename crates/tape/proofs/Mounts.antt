@@ -1,6 +1,6 @@
 -- What a host does for a command of the volume, as jobs see it.
 use Rattle.std.proofs.Common.{◌≡◌, ◌∙◌, ℕ, Bor, true, List, [], Option, Some, None, inl, inr, refl, sym, ap}
-use Rattle.std.specs.Prelude.{IfSome, is_some, option_map, option_and_then}
+use Rattle.std.specs.Prelude.{Bool, IfSome, is_some, option_map, option_and_then}
 use Rattle.lif_model.specs.Tape.{Tape}
 use Rattle.lif_model.specs.Volume.{Volume}
 use Rattle.lif_model.specs.Packing.{finished_volume_of}
@@ -22,10 +22,10 @@ use Rattle.host_model.specs.HostStates.{volume_at}
 use Rattle.host_model.specs.Replies.{refused_as}
 use Rattle.host_model.specs.Steps.{CountsWhole, HasReplyCause}
 use Rattle.host_model.specs.Tapes.{only_reads, only_settles}
-use Rattle.host_model.specs.Directories.{kept_after_command}
+use Rattle.host_model.specs.Directories.{IsKeptBehind}
 use Rattle.il_host.specs.HostView.{HostView, Performed}
 use Rattle.il_host.specs.Kept.{FileRead, GivesFile, TellsKept}
-use Rattle.tape_jobs.specs.Volumes.{DoneWhole, Commanded, IsFileAt, content_by, file_on, CountsFault, StopLeaves, OwnsGate, IsDirectoryAt, reply_by, volume_shown, changes_nothing, is_reading}
+use Rattle.tape_volumes.specs.Volumes.{DoneWhole, Commanded, IsFileAt, content_by, file_on, CountsFault, StopLeaves, OwnsGate, IsDirectoryAt, reply_by, volume_shown, changes_nothing, is_reading}
 use Rattle.tape.specs.Mounts.{content_read, mounted_in, mounted}
 
 -- the tape that is told
@@ -135,8 +135,20 @@ kept_mounted v header slots tells before is_shown =
     (is.0, sym tape.2 ∙ sym (ap (λ (x : Option Tape). option_and_then finished_volume_of x) tape.1) ∙ is.1, record { header_is = is.2; bytes_are = is.3; slots_are = is.4 })
 
 -- a command that replied ok leaves the directory kept
-pub kept_ok : (command : VolumeCommand) (r : Reply) (v w : HostView) → w.state.kept ≡ kept_after_command command r → r ≡ reply.Ok → w.state.kept ≡ true
-kept_ok command r v w is ok = is ∙ ap (kept_after_command command) ok
+pub kept_ok : (command : VolumeCommand) (was : Bool) (r : Reply) (now : Bool) → IsKeptBehind command was r now → r ≡ reply.Ok → now ≡ true
+kept_ok Dir was reply.Ok now is ok = is
+kept_ok Label was reply.Ok now is ok = is
+kept_ok (Fetch name) was reply.Ok now is ok = is
+kept_ok (Store name kind implementation bytes) was reply.Ok now is ok = is
+kept_ok (Rename old new) was reply.Ok now is ok = is
+kept_ok (Purge name) was reply.Ok now is ok = is
+kept_ok (Format label slots) was reply.Ok now is ok = is
+kept_ok Adopt was reply.Ok now is ok = is
+kept_ok Upgrade was reply.Ok now is ok = is
+kept_ok (Batch parts) was reply.Ok now is ok = is
+kept_ok command was (reply.No code) now is ok = cc
+kept_ok command was reply.FaultFrame now is ok = cc
+kept_ok command was reply.FaultMedium now is ok = cc
 
 pub kept_directory : (v : HostView) (found : Option (HeaderParts × Bor Table)) → IfSome found (λ d. TellsKept v.state d.0 d.1.now.slots) → IfSome found (λ d. IsDirectoryAt (volume_shown v.state.tape) d.0 d.1.now.slots)
 kept_directory v None tells = tt

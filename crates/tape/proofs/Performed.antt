@@ -2,7 +2,7 @@
 use Rattle.std.proofs.Common.{◌≡◌, ℕ, Some, inr, sym, subst}
 use Rattle.tape_folder.specs.Folders.{FolderView}
 use Rattle.tape_words.specs.Asked.{Wanted}
-use Rattle.tape_says.specs.Outputs.{Written}
+use Rattle.tape_volumes.specs.Outputs.{Written}
 use Rattle.tape.specs.Images.{DriveSight}
 use Rattle.tape.specs.Performing.{DoesAsked, PerformsAsked}
 

@@ -11,7 +11,7 @@ abbrev pub with_names : List Name → Option (List Name) → Option (List Name)
 with_names names rest = option_map (λ more. names ++ more) rest
 
 -- a name before those that the rest spells
-abbrev name_before : Option Name → Option (List Name) → Option (List Name)
+abbrev pub name_before : Option Name → Option (List Name) → Option (List Name)
 name_before name rest = option_and_then (λ name. option_map (λ names. name ∷ names) rest) name
 
 one_name_more : (names : List Name) (name : Name) (rest : Option (List Name)) → with_names (names ++ name ∷ []) rest ≡ with_names names (name_before (Some name) rest)

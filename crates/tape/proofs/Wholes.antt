@@ -12,9 +12,9 @@ use Rattle.il_ports.specs.Media.{DidInsert, MediumView}
 use Rattle.il_ports.specs.declared.medium.Inserted.TheVariants as inserted
 use Rattle.il_ports.specs.declared.medium.New.TheVariants as making
 use Rattle.il_host.specs.Whole.{MayHaveLeft}
-use Rattle.tape_jobs.specs.declared.went.Went.{Went}
-use Rattle.tape_jobs.specs.declared.went.Went.TheVariants as went
-use Rattle.tape_says.specs.declared.ending.Ending.TheVariants as ending
+use Rattle.tape_volumes.specs.declared.went.Went.{Went}
+use Rattle.tape_volumes.specs.declared.went.Went.TheVariants as went
+use Rattle.tape_volumes.specs.declared.ending.Ending.TheVariants as ending
 use Rattle.tape.specs.WholeImages.{IsNotRead, IsReadWhole, IsUnreadable, StaysAsRead, TapeIsRead}
 
 -- the bytes of one record more

@@ -3,12 +3,12 @@ use Rattle.std.specs.Prelude.{◌≡◌, ◌⊎◌, ◌∷◌, ℕ, true, false,
 use Rattle.lif_model.specs.Apply.{Dir}
 use Rattle.tape_jobs.specs.Collecting.{CollectDid}
 use Rattle.tape_jobs.specs.Differences.{are_alike, differences, named_file}
-use Rattle.tape_jobs.specs.Volumes.{StopLeaves}
+use Rattle.tape_volumes.specs.Volumes.{StopLeaves}
 use Rattle.tape_jobs.specs.declared.collecting.Collected.{Collected}
-use Rattle.tape_says.specs.declared.ending.Ending.{Ending}
-use Rattle.tape_says.specs.Endings.{is_done}
+use Rattle.tape_volumes.specs.declared.ending.Ending.{Ending}
+use Rattle.tape_volumes.specs.Endings.{is_done}
 use Rattle.tape.specs.Images.{DriveSight, JobEnds}
-use Rattle.tape_says.specs.Outputs.{LacksMemory, PrintsWith, Written}
+use Rattle.tape_volumes.specs.Outputs.{LacksMemory, PrintsWith, Written}
 use Rattle.tape.specs.WholeImages.{IsNotRead, IsReadWhole}
 use Rattle.tape.specs.Whys.{FailsOn}
 

@@ -6,12 +6,12 @@ use Rattle.il_ports.specs.Media.{MediumView}
 use Rattle.tape_folder.specs.Folders.{FolderView}
 use Rattle.tape_folder.specs.Paths.{IsFolderPath}
 use Rattle.tape_jobs.specs.Out.{OutDid, is_before_folder}
-use Rattle.tape_jobs.specs.Volumes.{StopLeaves}
+use Rattle.tape_volumes.specs.Volumes.{StopLeaves}
 use Rattle.tape_jobs.specs.declared.copying.Taken.{Taken}
-use Rattle.tape_says.specs.CopyMessages.{copy_messages}
-use Rattle.tape_says.specs.declared.ending.Ending.{Ending}
-use Rattle.tape_says.specs.Endings.{ending_status}
-use Rattle.tape_says.specs.Messages.{WritesMessage, memory_line, no_name_line}
+use Rattle.tape_jobs.specs.CopyMessages.{copy_messages}
+use Rattle.tape_volumes.specs.declared.ending.Ending.{Ending}
+use Rattle.tape_volumes.specs.Endings.{ending_status}
+use Rattle.tape_volumes.specs.Messages.{WritesMessage, memory_line, no_name_line}
 use Rattle.tape.specs.Images.{DriveSight, JobEnds}
 use Rattle.tape.specs.Names.{names_spelt, unspelt}
 

@@ -3,11 +3,11 @@ use Rattle.std.specs.Prelude.{◌≡◌, ◌⊎◌, ℕ, List, Option, Some, Non
 use Rattle.lif_dir.specs.Entries.{name_bytes}
 use Rattle.lif_dir.specs.declared.entries.Name.{Name}
 use Rattle.tape_jobs.specs.declared.reading.Part.{Part}
-use Rattle.tape_says.specs.declared.ending.Ending.{Ending}
-use Rattle.tape_says.specs.Endings.{ending_status}
+use Rattle.tape_volumes.specs.declared.ending.Ending.{Ending}
+use Rattle.tape_volumes.specs.Endings.{ending_status}
 use Rattle.tape.specs.Images.{DriveSight, ReadEnds}
-use Rattle.tape_says.specs.Messages.{WritesFileEnding, no_name_line}
-use Rattle.tape_says.specs.Outputs.{LacksMemory, PrintsNothing, WritesError, Written}
+use Rattle.tape_volumes.specs.Messages.{WritesFileEnding, no_name_line}
+use Rattle.tape_volumes.specs.Outputs.{LacksMemory, PrintsNothing, WritesError, Written}
 
 -- The image of that name was inserted in an empty drive, and its file read; the job ended so, and its message was written. The file was named
 -- by this text.

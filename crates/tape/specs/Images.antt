@@ -9,15 +9,15 @@ use Rattle.il_ports.specs.Inserting.{Refuses, OthersAreKept}
 use Rattle.il_ports.specs.Media.{MediumView}
 use Rattle.host_model.specs.Leaves.{HasImage}
 use Rattle.il_host.specs.Whole.{MayHaveLeft}
-use Rattle.tape_jobs.specs.Dir.{WritesNothing, DirDid}
+use Rattle.tape_jobs.specs.Dir.{DirDid}
+use Rattle.tape_volumes.specs.Outputs.{WritesNothing}
 use Rattle.tape_jobs.specs.Reading.{ReadDid}
-use Rattle.tape_jobs.specs.Volumes.{Mounted, StopLeaves}
+use Rattle.tape_volumes.specs.Volumes.{DoneOrNot, Mounted, StopLeaves}
 use Rattle.tape_jobs.specs.declared.listing.Style.{Style}
 use Rattle.tape_jobs.specs.declared.reading.Part.{Part}
-use Rattle.tape_jobs.specs.declared.went.Went.{Went}
-use Rattle.tape_jobs.specs.declared.went.Went.TheVariants as went
-use Rattle.tape_says.specs.declared.ending.Ending.{Ending}
-use Rattle.tape_says.specs.declared.ending.Ending.TheVariants as ending
+use Rattle.tape_volumes.specs.declared.went.Went.{Went}
+use Rattle.tape_volumes.specs.declared.ending.Ending.{Ending}
+use Rattle.tape_volumes.specs.declared.ending.Ending.TheVariants as ending
 
 -- What contracts see of drives of one kind: the view of each, and why an insert of an image of that name failed.
 pub record DriveSight (M : Type 0) : Type 1 where
@@ -30,10 +30,6 @@ sight view refuses = record { view = view; refuses = λ drive drive_now name. re
 -- the tape in the drive of a medium, with its directory kept in memory or not
 abbrev pub mounted_on : Bool → MediumView → Mounted
 mounted_on kept m = record { records = m.record_count; tape = m.tape; kept = kept; faults = m.faults }
-
--- The job was done, and went so; or there was no memory for it, and then nothing was done.
-abbrev pub DoneOrNot : (does : Went → Mounted → Mounted → Type 0) (nothing : Type 0) → Went → Mounted → Mounted → Type 0
-DoneOrNot does nothing w s t = ((w ≡ went.OutOfMemory) × (t ≡ s) × nothing) ⊎ does w s t
 
 -- A job did this on the tape that is in the drive of the medium v. No other image changes. A power stop leaves the tape as it was, or what the
 -- job may leave.

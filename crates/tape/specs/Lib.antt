@@ -9,3 +9,5 @@ pub mod WholeImages
 pub mod Whys
 pub mod Comparing
 pub mod Performing
+pub mod Lent
+pub mod Changes

@@ -3,7 +3,7 @@ use Rattle.std.specs.Prelude.{◌≡◌, []}
 use Rattle.host_model.specs.HostStates.{HostState}
 use Rattle.il_host.specs.HostView.{HostView}
 use Rattle.il_host.specs.Kept.{FileRead}
-use Rattle.tape_jobs.specs.Volumes.{FileContent, Mounted, VolumesView}
+use Rattle.tape_volumes.specs.Volumes.{FileContent, Mounted, VolumesView}
 
 -- the tape in the drive of a host
 abbrev pub mounted_in : HostState → Mounted

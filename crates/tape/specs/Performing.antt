@@ -1,15 +1,17 @@
 -- What the program does by its arguments.
-use Rattle.std.specs.Prelude.{◌≡◌, ◌⊎◌, ℕ, List, Option, Some, None, codes}
-use Rattle.tape_words.specs.Asked.{Wanted, Dir, Out, Get, Raw, Free, Map, Why, Diff, Help, Version}
+use Rattle.std.specs.Prelude.{◌≡◌, ◌⊎◌, ℕ, List, map, Option, Some, None, Result, Ok, Err, String, Vec, codes, string_bytes}
+use Rattle.std.specs.declared.alloc.Global.{Global}
+use Rattle.tape_words.specs.Asked.{Wanted, Dir, Out, Get, Raw, Free, Map, Why, Diff, Purge, Rename, Adopt, Upgrade, Help, Version, arguments_in}
 use Rattle.tape_jobs.specs.declared.listing.Style.TheVariants as style
 use Rattle.tape_jobs.specs.declared.reading.Part.TheVariants.{Bytes, Lines}
 use Rattle.tape_folder.specs.Folders.{FolderView}
 use Rattle.tape.specs.Images.{DriveSight}
 use Rattle.tape.specs.Comparing.{ImagesAreCompared}
+use Rattle.tape.specs.Changes.{AdoptsVolume, PurgesFiles, RenamesFile, UpgradesVolume}
 use Rattle.tape.specs.Copies.{CopiesFiles}
 use Rattle.tape.specs.Files.{ReadsNamedFile}
 use Rattle.tape.specs.Names.{name_spelt}
-use Rattle.tape_says.specs.Outputs.{LacksMemory, PrintsNothing, PrintsWith, WritesError, Written}
+use Rattle.tape_volumes.specs.Outputs.{LacksMemory, PrintsNothing, PrintsWith, WritesError, Written}
 use Rattle.tape.specs.Several.{DirDone}
 use Rattle.tape.specs.Shown.{VolumeIsShown, map_style}
 use Rattle.tape.specs.Whys.{ImageIsExplained}
@@ -21,6 +23,11 @@ Explains status old now = LacksMemory status old now ⊎ ((text : List ℕ) × P
 -- the arguments ask for no job, and a text says why
 abbrev pub RefusesArguments : (status : ℕ) → Written → Written → Type 0
 RefusesArguments status old now = (status ≡ 2) × PrintsNothing old now × ((text : List ℕ) × WritesError text old now)
+
+-- what arguments ask for, if they could be read
+abbrev pub asked_in : {E : Type 0} → Result (Vec (String Global) Global) E → Option Wanted
+asked_in (Ok words) = arguments_in (map string_bytes words.items)
+asked_in (Err e) = None
 
 -- What is done if this is asked for, over drives, drives that only read, drives in memory, and folders.
 module _ {M N O F : Type 0} (drives : DriveSight M) (readers : DriveSight N) (memory : DriveSight O) (seen : F → FolderView) where
@@ -35,6 +42,10 @@ module _ {M N O F : Type 0} (drives : DriveSight M) (readers : DriveSight N) (me
   DoesAsked (Some (Map svg image)) status old now = VolumeIsShown drives (map_style svg) image status old now
   DoesAsked (Some (Why image)) status old now = ImageIsExplained readers image status old now
   DoesAsked (Some (Diff image other)) status old now = ImagesAreCompared readers memory image other status old now
+  DoesAsked (Some (Purge image names)) status old now = PurgesFiles drives image names status old now
+  DoesAsked (Some (Rename image name name_now)) status old now = RenamesFile drives image name name_now status old now
+  DoesAsked (Some (Adopt image)) status old now = AdoptsVolume drives image status old now
+  DoesAsked (Some (Upgrade image)) status old now = UpgradesVolume drives image status old now
   DoesAsked (Some (Help topic)) status old now = Explains status old now
   DoesAsked (Some Version) status old now = PrintsWith 0 (codes "tape 1.0\n") status old now
 

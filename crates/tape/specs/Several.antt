@@ -5,11 +5,11 @@ use Rattle.std.specs.List.{list_all}
 use Rattle.tape_jobs.specs.declared.listing.Style.{Style}
 use Rattle.tape_jobs.specs.declared.listing.Style.TheVariants as style
 use Rattle.tape_text.specs.Rows.{column_names, row_line}
-use Rattle.tape_says.specs.declared.ending.Ending.{Ending}
-use Rattle.tape_says.specs.Endings.{ending_status, is_done, is_last}
+use Rattle.tape_volumes.specs.declared.ending.Ending.{Ending}
+use Rattle.tape_volumes.specs.Endings.{ending_status, is_done, is_last}
 use Rattle.tape.specs.Images.{DriveSight, DirEnds}
-use Rattle.tape_says.specs.Messages.{WritesEnding}
-use Rattle.tape_says.specs.Outputs.{LosesOutput, TellsNothing, Written}
+use Rattle.tape_volumes.specs.Messages.{WritesEnding}
+use Rattle.tape_volumes.specs.Outputs.{LosesOutput, TellsNothing, Written}
 
 -- the name before a listing: each image has one if the job has several
 abbrev pub heading_for : ℕ → List ℕ → Option (List ℕ)

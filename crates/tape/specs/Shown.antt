@@ -2,11 +2,11 @@
 use Rattle.std.specs.Prelude.{◌≡◌, ℕ, Bool, true, false, List}
 use Rattle.tape_jobs.specs.declared.listing.Style.{Style}
 use Rattle.tape_jobs.specs.declared.listing.Style.TheVariants as style
-use Rattle.tape_says.specs.declared.ending.Ending.{Ending}
-use Rattle.tape_says.specs.Endings.{ending_status}
+use Rattle.tape_volumes.specs.declared.ending.Ending.{Ending}
+use Rattle.tape_volumes.specs.Endings.{ending_status}
 use Rattle.tape.specs.Images.{DriveSight, DirEnds}
-use Rattle.tape_says.specs.Messages.{WritesEnding}
-use Rattle.tape_says.specs.Outputs.{Written}
+use Rattle.tape_volumes.specs.Messages.{WritesEnding}
+use Rattle.tape_volumes.specs.Outputs.{Written}
 
 -- the picture of the records, as an SVG file or not
 abbrev pub map_style : Bool → Style

@@ -8,10 +8,10 @@ use Rattle.lif_model.specs.Shelf.{Shelf, bytes_of, image_of, inserted, largest_i
 use Rattle.il_ports.specs.Media.{MediumView}
 use Rattle.host_model.specs.Leaves.{HasImage}
 use Rattle.il_host.specs.Whole.{MayHaveLeft}
-use Rattle.tape_jobs.specs.declared.went.Went.{Went}
-use Rattle.tape_jobs.specs.declared.went.Went.TheVariants as went
-use Rattle.tape_says.specs.declared.ending.Ending.{Ending}
-use Rattle.tape_says.specs.declared.ending.Ending.TheVariants as ending
+use Rattle.tape_volumes.specs.declared.went.Went.{Went}
+use Rattle.tape_volumes.specs.declared.went.Went.TheVariants as went
+use Rattle.tape_volumes.specs.declared.ending.Ending.{Ending}
+use Rattle.tape_volumes.specs.declared.ending.Ending.TheVariants as ending
 use Rattle.tape.specs.Images.{JobEnds}
 
 -- all records of the tape in the drive were read, and nothing changed

@@ -2,10 +2,10 @@
 use Rattle.std.specs.Prelude.{◌≡◌, ◌⊎◌, ℕ, List, if◌then◌else◌}
 use Rattle.il_ports.specs.Media.{MediumView}
 use Rattle.tape_why.specs.Why.{is_changeable, why_text}
-use Rattle.tape_says.specs.declared.ending.Ending.{Ending}
-use Rattle.tape_says.specs.Endings.{ending_status}
-use Rattle.tape_says.specs.Messages.{WritesEnding}
-use Rattle.tape_says.specs.Outputs.{LacksMemory, PrintsNothing, PrintsWith, Written}
+use Rattle.tape_volumes.specs.declared.ending.Ending.{Ending}
+use Rattle.tape_volumes.specs.Endings.{ending_status}
+use Rattle.tape_volumes.specs.Messages.{WritesEnding}
+use Rattle.tape_volumes.specs.Outputs.{LacksMemory, PrintsNothing, PrintsWith, Written}
 use Rattle.tape.specs.Images.{DriveSight}
 use Rattle.tape.specs.WholeImages.{IsNotRead, IsReadWhole}
 

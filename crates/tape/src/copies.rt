@@ -1,5 +1,6 @@
-ghost use Rattle.std.specs.Prelude.{◌≡◌, [], IfOk, None, map};
+ghost use Rattle.std.specs.Prelude.{◌≡◌, ◌≤◌, ◌+◌, true, [], IfOk, None, map};
 ghost use Rattle.tape.specs.Images.{sight};
+ghost use Rattle.tape.specs.Lent.{UsesDrives};
 ghost use Rattle.tape.specs.Copies.{CopiesFiles, FilesAreCopied};
 ghost use Rattle.tape_folder.specs.Paths.{IsFolderPath};
 
@@ -11,17 +12,21 @@ use il_script::Page;
 use lif_dir::Name;
 use std::alloc::{AllocError, Global};
 use tape_folder::Folder;
-use tape_jobs::{Copying, Progress};
+use tape_jobs::{Copying, Progress, write_copied};
 use tape_names::HOST_NAME_LENGTH;
-use tape_says::{no_memory, refuse_name, write_copied};
+use tape_volumes::{no_memory, refuse_name};
 
 /// Where folders come from.
 pub trait Folders<F: Folder> {
-    ghost use Rattle.std.specs.Prelude.{◌≡◌, IfOk, None};
+    ghost use Rattle.std.specs.Prelude.{◌≡◌, ◌≤◌, ◌+◌, ℕ, IfOk, None};
     ghost use Rattle.tape_folder.specs.Paths.{IsFolderPath};
+
+    // How many folders were given, or fewer.
+    ghost given: { Self → ℕ };
 
     /// The folder of that path. It takes all its memory here.
     fn folder(&mut self, alloc: Global, path: &str) -> Result<F, AllocError>
+        ensures given { given self.new ≤ given self.old + 1 }
         ensures closed { IfOk result (λ folder. (F.view folder).part ≡ None) }
         ensures path { IfOk result (λ folder. IsFolderPath path.now (F.view folder).path) };
 }
@@ -41,10 +46,11 @@ fn take_kit<F: Folder + Drop, G: Folders<F>>(
     folders: &mut G,
     path: &str,
 ) -> Result<Kit<F>, AllocError>
-    ensures { IfOk result (λ kit. ((F.view kit.folder).part ≡ None)
+    ensures kit { IfOk result (λ kit. ((F.view kit.folder).part ≡ None)
         × IsFolderPath path.now (F.view kit.folder).path
         × (kit.page ≡ record { text = []; room = HOST_NAME_LENGTH })
         × (kit.line ≡ record { text = []; room = HOST_NAME_LENGTH })) }
+    ensures folders { G.given folders.new ≤ G.given folders.old + 1 }
 {
     Ok(Kit {
         folder: folders.folder(alloc, path)?,
@@ -54,9 +60,9 @@ fn take_kit<F: Folder + Drop, G: Folders<F>>(
 }
 
 /// Copies the files of these names, or all files if there is no name, into a folder, and says the exit status.
-fn copy_named<M: Medium + Drop, F: Folder + Drop, P: Sink + Drop, E: Sink>(
+fn copy_named<M: Medium + Drop, D: Drives<M>, F: Folder + Drop, P: Sink + Drop, E: Sink>(
     alloc: Global,
-    drive: M,
+    drives: &mut D,
     kit: Kit<F>,
     progress: Progress<P>,
     image: &str,
@@ -64,13 +70,14 @@ fn copy_named<M: Medium + Drop, F: Folder + Drop, P: Sink + Drop, E: Sink>(
     names: &[Name],
     error: &mut E,
 ) -> u8
-    requires empty { (M.view drive).record_count ≡ 0 }
+    requires back { D.all_back drives.old ≡ true }
     requires closed { (F.view kit.folder).part ≡ None }
     requires place { IsFolderPath path.now (F.view kit.folder).path }
     requires page { kit.page ≡ record { text = []; room = HOST_NAME_LENGTH } }
     requires line { kit.line ≡ record { text = []; room = HOST_NAME_LENGTH } }
-    ensures { FilesAreCopied (sight M.view M.refuses) F.view image.now path.now names.now result
+    ensures copied { FilesAreCopied (sight M.view M.refuses) F.view image.now path.now names.now result
         (E.written error.old) (E.written error.new) (E.faults error.old) (E.faults error.new) }
+    ensures drives { UsesDrives 1 (D.given drives.old) (D.given drives.new) (D.all_back drives.new) }
 {
     let Kit {
         folder,
@@ -84,8 +91,10 @@ fn copy_named<M: Medium + Drop, F: Folder + Drop, P: Sink + Drop, E: Sink>(
         progress,
         ends: Vec::new(alloc),
     };
+    let drive = drives.drive();
     let (ending, returned) = work_on_image(alloc, drive, image, job);
-    let Returned { job, .. } = returned;
+    let Returned { medium, job } = returned;
+    drives.back(medium);
     write_copied(error, image, path, ending, &job.ends, &mut line);
     ending.status()
 }
@@ -108,8 +117,11 @@ pub fn copy_files<
     texts: &[&str],
     error: &mut E,
 ) -> u8
-    ensures { CopiesFiles (sight M.view M.refuses) F.view image.now path.now (map (λ text. text.now) texts.now) result
+    requires back { D.all_back drives.old ≡ true }
+    ensures copied { CopiesFiles (sight M.view M.refuses) F.view image.now path.now (map (λ text. text.now) texts.now) result
         (E.written error.old) (E.written error.new) (E.faults error.old) (E.faults error.new) }
+    ensures drives { UsesDrives 1 (D.given drives.old) (D.given drives.new) (D.all_back drives.new) }
+    ensures folders { G.given folders.new ≤ G.given folders.old + 1 }
 {
     let names = match names_spelt(alloc, texts) {
         Ok(names) => names,
@@ -117,16 +129,7 @@ pub fn copy_files<
         Err(NoNames::OutOfMemory) => return no_memory(error),
     };
     match take_kit(alloc, folders, path) {
-        Ok(kit) => copy_named(
-            alloc,
-            drives.drive(),
-            kit,
-            progress,
-            image,
-            path,
-            &names,
-            error,
-        ),
+        Ok(kit) => copy_named(alloc, drives, kit, progress, image, path, &names, error),
         Err(_) => no_memory(error),
     }
 }

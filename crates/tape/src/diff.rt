@@ -1,19 +1,20 @@
 //! The job `diff`.
-ghost use Rattle.std.specs.Prelude.{◌≡◌, ◌⊎◌, ◌∷◌, [], IfOk, Some};
+ghost use Rattle.std.specs.Prelude.{◌≡◌, ◌⊎◌, ◌∷◌, true, [], IfOk, Some};
 ghost use Rattle.tape.specs.Images.{sight};
+ghost use Rattle.tape.specs.Lent.{UsesDrives};
 ghost use Rattle.tape.specs.Comparing.{AreCollected, AreCollectedIn, CollectsIn, ImagesAreCompared, OtherIsCompared};
 ghost use Rattle.tape.specs.Comparing.{TellsDifferences};
-ghost use Rattle.tape_says.specs.declared.ending.Ending.TheVariants as ending;
-ghost use Rattle.tape_jobs.specs.declared.went.Went.TheVariants as went;
-ghost use Rattle.tape_says.specs.Outputs.{written};
+ghost use Rattle.tape_volumes.specs.declared.ending.Ending.TheVariants as ending;
+ghost use Rattle.tape_volumes.specs.declared.went.Went.TheVariants as went;
+ghost use Rattle.tape_volumes.specs.Outputs.{written};
 
 use crate::images::{Returned, work_on_image};
 use crate::several::Drives;
 use crate::whole::read_image;
 use il_ports::{Medium, MemoryMedium, Sink};
 use std::alloc::{AllocError, Global};
-use tape_jobs::{Collected, Collecting, Went, difference_text};
-use tape_says::{Ending, end_on, no_memory, print};
+use tape_jobs::{Collected, Collecting, difference_text};
+use tape_volumes::{Ending, Went, end_on, no_memory, print};
 
 /// How many records can be written to a copy of an image in memory: enough to settle it, and to finish a packing.
 const WRITES: usize = 16_384;
@@ -59,15 +60,22 @@ fn collect_copy(alloc: Global, image: &str, bytes: Vec<u8>) -> (Ending, Vec<Coll
     }
 }
 
-/// Reads the image of that name whole, and collects its files. It is closed at the end.
-fn collect_image<M: Medium + Drop>(alloc: Global, drive: M, image: &str) -> (Ending, Vec<Collected>)
-    requires empty { (M.view drive).record_count ≡ 0 }
-    ensures { AreCollected (sight M.view M.refuses)
+/// Reads the image of that name whole, closes it, and collects its files from a copy.
+fn collect_image<M: Medium + Drop, D: Drives<M>>(
+    alloc: Global,
+    readers: &mut D,
+    image: &str,
+) -> (Ending, Vec<Collected>)
+    requires back { D.all_back readers.old ≡ true }
+    ensures drives { UsesDrives 1 (D.given readers.old) (D.given readers.new) (D.all_back readers.new) }
+    ensures collected { AreCollected (sight M.view M.refuses)
         (sight ⟦<MemoryMedium as Medium>⟧.view ⟦<MemoryMedium as Medium>⟧.refuses)
         image.now result.0 result.1.items }
 {
-    let mut drive = drive;
-    match read_image(alloc, &mut drive, image) {
+    let mut drive = readers.drive();
+    let read = read_image(alloc, &mut drive, image);
+    readers.back(drive);
+    match read {
         Ok(bytes) => collect_copy(alloc, image, bytes),
         Err(ending) => (ending, Vec::new(alloc)),
     }
@@ -106,13 +114,15 @@ fn compare_other<M: Medium + Drop, D: Drives<M>, K: Sink, E: Sink>(
     out: &mut K,
     error: &mut E,
 ) -> u8
-    ensures { OtherIsCompared (sight M.view M.refuses)
+    requires back { D.all_back readers.old ≡ true }
+    ensures drives { UsesDrives 1 (D.given readers.old) (D.given readers.new) (D.all_back readers.new) }
+    ensures compared { OtherIsCompared (sight M.view M.refuses)
         (sight ⟦<MemoryMedium as Medium>⟧.view ⟦<MemoryMedium as Medium>⟧.refuses)
         image.now other.now files.now result
         (written (K.written out.old) (K.faults out.old) (E.written error.old) (E.faults error.old))
         (written (K.written out.new) (K.faults out.new) (E.written error.new) (E.faults error.new)) }
 {
-    let (ending, others) = collect_image(alloc, readers.drive(), other);
+    let (ending, others) = collect_image(alloc, readers, other);
     if ending.is_done() {
         tell_differences(alloc, image, other, files, &others, out, error)
     } else {
@@ -129,13 +139,15 @@ pub fn compare_images<M: Medium + Drop, D: Drives<M>, K: Sink, E: Sink>(
     out: &mut K,
     error: &mut E,
 ) -> u8
-    ensures { ImagesAreCompared (sight M.view M.refuses)
+    requires back { D.all_back readers.old ≡ true }
+    ensures drives { UsesDrives 2 (D.given readers.old) (D.given readers.new) (D.all_back readers.new) }
+    ensures compared { ImagesAreCompared (sight M.view M.refuses)
         (sight ⟦<MemoryMedium as Medium>⟧.view ⟦<MemoryMedium as Medium>⟧.refuses)
         image.now other.now result
         (written (K.written out.old) (K.faults out.old) (E.written error.old) (E.faults error.old))
         (written (K.written out.new) (K.faults out.new) (E.written error.new) (E.faults error.new)) }
 {
-    let (ending, files) = collect_image(alloc, readers.drive(), image);
+    let (ending, files) = collect_image(alloc, readers, image);
     if ending.is_done() {
         compare_other(alloc, readers, image, other, &files, out, error)
     } else {

@@ -23,9 +23,17 @@ impl<R: Files<File = File> + Copy + Drop> SystemDrives<R> {
 
 impl<R: Files<File = File> + Copy + Drop> Drives<FileMedium<SystemFile, SystemImages<R>, ToChange>>
     for SystemDrives<R> {
+    ghost use Rattle.std.specs.Prelude.{true};
+
+    ghost given = { λ drives. 0 };
+
+    ghost all_back = { λ drives. true };
+
     fn drive(&mut self) -> FileMedium<SystemFile, SystemImages<R>, ToChange> {
         FileMedium::new(SystemImages::new(self.files))
     }
+
+    fn back(&mut self, _: FileMedium<SystemFile, SystemImages<R>, ToChange>) {}
 }
 
 /// Drives over the files of the system, which open their images only to read them.
@@ -43,9 +51,17 @@ impl<R: Files<File = File> + Copy + Drop> SystemReaders<R> {
 
 impl<R: Files<File = File> + Copy + Drop> Drives<FileMedium<SystemFile, SystemImages<R>, ToRead>>
     for SystemReaders<R> {
+    ghost use Rattle.std.specs.Prelude.{true};
+
+    ghost given = { λ drives. 0 };
+
+    ghost all_back = { λ drives. true };
+
     fn drive(&mut self) -> FileMedium<SystemFile, SystemImages<R>, ToRead> {
         FileMedium::to_read(SystemImages::new(self.files))
     }
+
+    fn back(&mut self, _: FileMedium<SystemFile, SystemImages<R>, ToRead>) {}
 }
 
 /// Folders of the system, by their paths.
@@ -62,6 +78,8 @@ impl<R: Files<File = File> + Copy + Drop> SystemFolders<R> {
 }
 
 impl<R: Files<File = File> + Copy + Drop> Folders<SystemFolder<R>> for SystemFolders<R> {
+    ghost given = { λ folders. 0 };
+
     fn folder(&mut self, alloc: Global, path: &str) -> Result<SystemFolder<R>, AllocError> {
         SystemFolder::new(alloc, self.files, path)
     }

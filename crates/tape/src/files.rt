@@ -1,9 +1,10 @@
-ghost use Rattle.std.specs.Prelude.{◌≡◌};
+ghost use Rattle.std.specs.Prelude.{true, ◌≡◌};
 ghost use Rattle.tape.specs.Images.{sight};
+ghost use Rattle.tape.specs.Lent.{UsesDrives};
 ghost use Rattle.tape.specs.Files.{FileIsRead, ReadsNamedFile};
 ghost use Rattle.tape.specs.Names.{name_spelt};
 ghost use Rattle.tape_jobs.specs.Reading.{HasRoomForFile};
-ghost use Rattle.tape_says.specs.Outputs.{written};
+ghost use Rattle.tape_volumes.specs.Outputs.{written};
 
 use crate::images::{Returned, work_on_image};
 use crate::names::name_spelt;
@@ -13,12 +14,12 @@ use il_script::Page;
 use lif_dir::Name;
 use std::alloc::Global;
 use tape_jobs::{Part, Reading, page_for_file};
-use tape_says::{no_memory, refuse_name, write_file_ending};
+use tape_volumes::{no_memory, refuse_name, write_file_ending};
 
 /// Reads the file of an image whose name a text spells, and says the exit status.
-fn read_named<M: Medium + Drop, K: Sink + Drop, E: Sink>(
+fn read_named<M: Medium + Drop, D: Drives<M>, K: Sink + Drop, E: Sink>(
     alloc: Global,
-    drive: M,
+    drives: &mut D,
     part: Part,
     image: &str,
     file: &Name,
@@ -27,11 +28,12 @@ fn read_named<M: Medium + Drop, K: Sink + Drop, E: Sink>(
     out: K,
     error: &mut E,
 ) -> (u8, K)
-    requires empty { (M.view drive).record_count ≡ 0 }
+    requires back { D.all_back drives.old ≡ true }
     requires page { HasRoomForFile page }
-    ensures { FileIsRead (sight M.view M.refuses) part image.now file.now text.now result.0
+    ensures read { FileIsRead (sight M.view M.refuses) part image.now file.now text.now result.0
         (written (K.written out) (K.faults out) (E.written error.old) (E.faults error.old))
         (written (K.written result.1) (K.faults result.1) (E.written error.new) (E.faults error.new)) }
+    ensures drives { UsesDrives 1 (D.given drives.old) (D.given drives.new) (D.all_back drives.new) }
 {
     let name = file;
     let job = Reading {
@@ -40,9 +42,11 @@ fn read_named<M: Medium + Drop, K: Sink + Drop, E: Sink>(
         page,
         out,
     };
+    let drive = drives.drive();
     let (ending, returned) = work_on_image(alloc, drive, image, job);
+    let Returned { medium, job } = returned;
+    drives.back(medium);
     write_file_ending(error, image, text, ending);
-    let Returned { job, .. } = returned;
     (ending.status(), job.out)
 }
 
@@ -56,25 +60,17 @@ pub fn read_file<M: Medium + Drop, D: Drives<M>, K: Sink + Drop, E: Sink>(
     out: K,
     error: &mut E,
 ) -> (u8, K)
-    ensures { ReadsNamedFile (sight M.view M.refuses) part image.now (name_spelt text.now) text.now result.0
+    requires back { D.all_back drives.old ≡ true }
+    ensures read { ReadsNamedFile (sight M.view M.refuses) part image.now (name_spelt text.now) text.now result.0
         (written (K.written out) (K.faults out) (E.written error.old) (E.faults error.old))
         (written (K.written result.1) (K.faults result.1) (E.written error.new) (E.faults error.new)) }
+    ensures drives { UsesDrives 1 (D.given drives.old) (D.given drives.new) (D.all_back drives.new) }
 {
     let Some(file) = name_spelt(text) else {
         return (refuse_name(error, text), out);
     };
     match page_for_file(alloc) {
-        Ok(page) => read_named(
-            alloc,
-            drives.drive(),
-            part,
-            image,
-            &file,
-            text,
-            page,
-            out,
-            error,
-        ),
+        Ok(page) => read_named(alloc, drives, part, image, &file, text, page, out, error),
         Err(_) => (no_memory(error), out),
     }
 }

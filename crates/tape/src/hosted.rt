@@ -1,7 +1,7 @@
 use crate::mounted::Mounted;
 use il_host::{Job, Performer};
 use std::alloc::Global;
-use tape_jobs::{VolumeJob, Went};
+use tape_volumes::{VolumeJob, Went};
 
 /// A job on an image, which a host does.
 #[derive(Drop)]

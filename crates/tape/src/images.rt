@@ -1,13 +1,13 @@
 ghost use Rattle.std.specs.Prelude.{◌≡◌, None};
 ghost use Rattle.lif_model.specs.Shelf.{IsSize};
-ghost use Rattle.tape.specs.Images.{DoneOrNot, JobEnds, WorksOnTape};
+ghost use Rattle.tape.specs.Images.{JobEnds, WorksOnTape};
+ghost use Rattle.tape_volumes.specs.Volumes.{DoneOrNot};
 
 use crate::hosted::Hosted;
 use il_host::{Rig, with_host};
 use il_ports::{Inserted, Medium, New};
 use std::alloc::Global;
-use tape_jobs::{VolumeJob, Went};
-use tape_says::Ending;
+use tape_volumes::{Ending, VolumeJob, Went};
 
 /// What is returned of a job on one image.
 #[derive(Drop)]

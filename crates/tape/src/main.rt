@@ -1,7 +1,8 @@
-//! The program `tape`: lists images of tapes and discs, takes files out of them, and what else its user does with them
-//! every day.
+//! The program `tape`: lists images of tapes and discs, takes files out of them, changes them, and what else its user
+//! does with them every day.
 #![tactic(auto)]
 
+mod changes;
 mod copies;
 mod diff;
 mod drives;

@@ -1,13 +1,15 @@
-ghost use Rattle.std.specs.Prelude.{◌≡◌, IfErr, IfOk, Some, map, string_bytes};
+ghost use Rattle.std.specs.Prelude.{◌≡◌, ◌≤◌, ◌+◌, true, IfErr, IfOk, Some, map, string_bytes};
 ghost use Rattle.std.specs.IoError.{error_kind};
 ghost use Rattle.exits.specs.Statuses.{IsUnreadStatus};
 ghost use Rattle.tape.specs.Images.{sight};
 ghost use Rattle.tape_words.specs.Asked.{job_asked, arguments_in};
-ghost use Rattle.tape_says.specs.Messages.{WritesMessage, memory_line, unread_line};
-ghost use Rattle.tape_says.specs.Outputs.{written};
-ghost use Rattle.tape.specs.Performing.{Explains, PerformsAsked};
+ghost use Rattle.tape_volumes.specs.Messages.{WritesMessage, memory_line, unread_line};
+ghost use Rattle.tape_volumes.specs.Outputs.{written};
+ghost use Rattle.tape.specs.Lent.{UsesDrives, drives_for, folders_for, readers_for};
+ghost use Rattle.tape.specs.Performing.{Explains, PerformsAsked, asked_in};
 ghost use Rattle.tape.specs.Shown.{map_style};
 
+use crate::changes::{adopt_volume, purge_files, rename_file, upgrade_volume};
 use crate::copies::{Folders, copy_files};
 use crate::diff::compare_images;
 use crate::files::read_file;
@@ -20,7 +22,7 @@ use std::alloc::{AllocError, Global};
 use std::io;
 use tape_folder::Folder;
 use tape_jobs::{Part, Progress, Style};
-use tape_says::{no_memory, print, write_message, write_text};
+use tape_volumes::{no_memory, print, write_message, write_text};
 use tape_words::{Job, NotRead, Topic, VERSION_TEXT, help_text, job_of, missing, parse};
 
 /// Writes the help of the program or of a job, and says the exit status.
@@ -92,11 +94,16 @@ fn do_job<
     out: K,
     error: &mut E,
 ) -> (u8, K)
-    ensures { PerformsAsked (sight M.view M.refuses) (sight N.view N.refuses)
+    requires drives { D.all_back drives.old ≡ true }
+    requires readers { R.all_back readers.old ≡ true }
+    ensures done { PerformsAsked (sight M.view M.refuses) (sight N.view N.refuses)
         (sight ⟦<MemoryMedium as Medium>⟧.view ⟦<MemoryMedium as Medium>⟧.refuses)
         F.view (Some (job_asked job.entry)) result.0
         (written (K.written out) (K.faults out) (E.written error.old) (E.faults error.old))
         (written (K.written result.1) (K.faults result.1) (E.written error.new) (E.faults error.new)) }
+    ensures drives { UsesDrives (drives_for (Some (job_asked job.entry))) (D.given drives.old) (D.given drives.new) (D.all_back drives.new) }
+    ensures readers { UsesDrives (readers_for (Some (job_asked job.entry))) (R.given readers.old) (R.given readers.new) (R.all_back readers.new) }
+    ensures folders { G.given folders.new ≤ G.given folders.old + folders_for (Some (job_asked job.entry)) }
 {
     let mut out = out;
     match job {
@@ -124,6 +131,12 @@ fn do_job<
             compare_images(alloc, readers, image, other, &mut out, error),
             out,
         ),
+        Job::Purge { image, names } => purge_files(alloc, drives, image, names, out, error),
+        Job::Rename { image, old, new } => {
+            rename_file(alloc, drives, image, old, new, out, error)
+        }
+        Job::Adopt { image } => adopt_volume(alloc, drives, image, out, error),
+        Job::Upgrade { image } => upgrade_volume(alloc, drives, image, out, error),
         Job::Help { topic } => (explain(alloc, topic, &mut out, error), out),
         Job::Version => (print(0, VERSION_TEXT.as_bytes(), &mut out, error), out),
     }
@@ -150,11 +163,16 @@ fn perform_words<
     out: K,
     error: &mut E,
 ) -> (u8, K)
-    ensures { PerformsAsked (sight M.view M.refuses) (sight N.view N.refuses)
+    requires drives { D.all_back drives.old ≡ true }
+    requires readers { R.all_back readers.old ≡ true }
+    ensures done { PerformsAsked (sight M.view M.refuses) (sight N.view N.refuses)
         (sight ⟦<MemoryMedium as Medium>⟧.view ⟦<MemoryMedium as Medium>⟧.refuses)
         F.view (arguments_in (map string_bytes words.now)) result.0
         (written (K.written out) (K.faults out) (E.written error.old) (E.faults error.old))
         (written (K.written result.1) (K.faults result.1) (E.written error.new) (E.faults error.new)) }
+    ensures drives { UsesDrives (drives_for (arguments_in (map string_bytes words.now))) (D.given drives.old) (D.given drives.new) (D.all_back drives.new) }
+    ensures readers { UsesDrives (readers_for (arguments_in (map string_bytes words.now))) (R.given readers.old) (R.given readers.new) (R.all_back readers.new) }
+    ensures folders { G.given folders.new ≤ G.given folders.old + folders_for (arguments_in (map string_bytes words.now)) }
 {
     match parse(alloc, words) {
         Ok(matches) => match job_of(&matches) {
@@ -189,6 +207,8 @@ pub fn perform<
     out: K,
     error: &mut E,
 ) -> (u8, K)
+    requires drives { D.all_back drives.old ≡ true }
+    requires readers { R.all_back readers.old ≡ true }
     ensures unread { IfErr words (λ e. IsUnreadStatus (error_kind e) result.0 × (result.1 ≡ out)
         × WritesMessage unread_line
         (E.written error.old) (E.written error.new) (E.faults error.old) (E.faults error.new)) }
@@ -198,6 +218,9 @@ pub fn perform<
         F.view (arguments_in (map string_bytes list.items)) result.0
         (written (K.written out) (K.faults out) (E.written error.old) (E.faults error.old))
         (written (K.written result.1) (K.faults result.1) (E.written error.new) (E.faults error.new))) }
+    ensures drives { UsesDrives (drives_for (asked_in words)) (D.given drives.old) (D.given drives.new) (D.all_back drives.new) }
+    ensures readers { UsesDrives (readers_for (asked_in words)) (R.given readers.old) (R.given readers.new) (R.all_back readers.new) }
+    ensures folders { G.given folders.new ≤ G.given folders.old + folders_for (asked_in words) }
 {
     match words {
         Ok(words) => perform_words(

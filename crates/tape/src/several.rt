@@ -1,23 +1,37 @@
-ghost use Rattle.std.specs.Prelude.{◌≡◌, ◌==◌, ◌||◌, ◌&&◌, if◌then◌else◌, map};
+ghost use Rattle.std.specs.Prelude.{◌≡◌, ◌==◌, ◌||◌, ◌&&◌, if◌then◌else◌, true, length, map};
 ghost use Rattle.tape.specs.Images.{sight};
-ghost use Rattle.tape_says.specs.Endings.{is_last, is_done as done};
-ghost use Rattle.tape_says.specs.Outputs.{written};
+ghost use Rattle.tape_volumes.specs.Endings.{is_last, is_done as done};
+ghost use Rattle.tape_volumes.specs.Outputs.{written};
+ghost use Rattle.tape.specs.Lent.{UsesDrives};
 ghost use Rattle.tape.specs.Several.{DirDone, DirsEnd, ImageListed, IsStyleFor};
 
 use crate::images::{Returned, work_on_image};
 use il_ports::{Medium, Sink, write_all};
 use std::alloc::Global;
 use tape_jobs::{Listing, Style};
-use tape_says::{Ending, output_lost, write_ending};
 use tape_text::first_csv_row;
+use tape_volumes::{Ending, output_lost, write_ending};
 
 /// Where drives come from: each image is inserted in a drive of its own.
 pub trait Drives<M: Medium> {
-    ghost use Rattle.std.specs.Prelude.{◌≡◌};
+    ghost use Rattle.std.specs.Prelude.{◌≡◌, ◌≤◌, ◌+◌, ℕ, Bool, true};
 
-    /// An empty drive.
+    // How many drives were given, or fewer.
+    ghost given: { Self → ℕ };
+
+    // Each drive that was given is back.
+    ghost all_back: { Self → Bool };
+
+    /// Gives an empty drive. Each one that was given before is back.
     fn drive(&mut self) -> M
-        ensures { (M.view result).record_count ≡ 0 };
+        requires { all_back self.old ≡ true }
+        ensures empty { (M.view result).record_count ≡ 0 }
+        ensures given { given self.new ≤ given self.old + 1 };
+
+    /// Takes a drive back, and closes the image that is in it.
+    fn back(&mut self, drive: M)
+        ensures given { given self.new ≤ given self.old }
+        ensures back { all_back self.new ≡ true };
 }
 
 /// How one of `count` images is listed.
@@ -34,9 +48,9 @@ fn style_for(csv: bool, count: usize, name: &str) -> Style<'_>
 }
 
 /// Lists one of `count` images, and writes a message if that was not done.
-fn dir_one<M: Medium + Drop, K: Sink + Drop, E: Sink>(
+fn dir_one<M: Medium + Drop, D: Drives<M>, K: Sink + Drop, E: Sink>(
     alloc: Global,
-    drive: M,
+    drives: &mut D,
     csv: bool,
     count: usize,
     all: bool,
@@ -44,15 +58,18 @@ fn dir_one<M: Medium + Drop, K: Sink + Drop, E: Sink>(
     out: K,
     error: &mut E,
 ) -> (Ending, K)
-    requires empty { (M.view drive).record_count ≡ 0 }
-    ensures { ImageListed (sight M.view M.refuses) csv count all name.now result.0
+    requires back { D.all_back drives.old ≡ true }
+    ensures listed { ImageListed (sight M.view M.refuses) csv count all name.now result.0
         (written (K.written out) (K.faults out) (E.written error.old) (E.faults error.old))
         (written (K.written result.1) (K.faults result.1) (E.written error.new) (E.faults error.new)) }
+    ensures drives { UsesDrives 1 (D.given drives.old) (D.given drives.new) (D.all_back drives.new) }
 {
     let style = style_for(csv, count, name);
+    let drive = drives.drive();
     let (ending, returned) = work_on_image(alloc, drive, name, Listing { style, all, out });
+    let Returned { medium, job } = returned;
+    drives.back(medium);
     write_ending(error, name, ending);
-    let Returned { job, .. } = returned;
     (ending, job.out)
 }
 
@@ -87,23 +104,16 @@ fn dir_each<M: Medium + Drop, D: Drives<M>, K: Sink + Drop, E: Sink>(
     out: K,
     error: &mut E,
 ) -> (u8, K)
-    ensures { DirsEnd (sight M.view M.refuses) csv all (map (λ name. name.now) names.now) result.0
+    requires back { D.all_back drives.old ≡ true }
+    ensures listed { DirsEnd (sight M.view M.refuses) csv all (map (λ name. name.now) names.now) result.0
         (written (K.written out) (K.faults out) (E.written error.old) (E.faults error.old))
         (written (K.written result.1) (K.faults result.1) (E.written error.new) (E.faults error.new)) }
+    ensures drives { UsesDrives (length names.now) (D.given drives.old) (D.given drives.new) (D.all_back drives.new) }
 {
     let mut out = out;
     let mut is_done = true;
     'images: for name in names {
-        let (ending, now) = dir_one(
-            alloc,
-            drives.drive(),
-            csv,
-            names.len(),
-            all,
-            name,
-            out,
-            error,
-        );
+        let (ending, now) = dir_one(alloc, drives, csv, names.len(), all, name, out, error);
         out = now;
         if ends_job(names.len(), ending) {
             return (ending.status(), out);
@@ -123,9 +133,11 @@ pub fn dir_images<M: Medium + Drop, D: Drives<M>, K: Sink + Drop, E: Sink>(
     out: K,
     error: &mut E,
 ) -> (u8, K)
-    ensures { DirDone (sight M.view M.refuses) csv all (map (λ name. name.now) names.now) result.0
+    requires back { D.all_back drives.old ≡ true }
+    ensures listed { DirDone (sight M.view M.refuses) csv all (map (λ name. name.now) names.now) result.0
         (written (K.written out) (K.faults out) (E.written error.old) (E.faults error.old))
         (written (K.written result.1) (K.faults result.1) (E.written error.new) (E.faults error.new)) }
+    ensures drives { UsesDrives (length names.now) (D.given drives.old) (D.given drives.new) (D.all_back drives.new) }
 {
     let mut out = out;
     if csv && write_all(&mut out, first_csv_row()).is_err() {

@@ -5,8 +5,7 @@ ghost use Rattle.tape.specs.WholeImages.{ReadsAllRecords, ReadsWhole};
 
 use il_ports::{Inserted, Medium, New};
 use std::alloc::Global;
-use tape_jobs::Went;
-use tape_says::Ending;
+use tape_volumes::{Ending, Went};
 
 /// The bytes of a record.
 const RECORD: usize = 256;

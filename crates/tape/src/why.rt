@@ -1,15 +1,16 @@
 //! The job `why`.
-ghost use Rattle.std.specs.Prelude.{◌≡◌, ◌≤◌, None, length};
+ghost use Rattle.std.specs.Prelude.{◌≡◌, ◌≤◌, true, None, length};
 ghost use Rattle.lif_model.specs.Shelf.{largest_image};
 ghost use Rattle.tape.specs.Images.{sight};
-ghost use Rattle.tape_says.specs.Outputs.{written};
+ghost use Rattle.tape.specs.Lent.{UsesDrives};
+ghost use Rattle.tape_volumes.specs.Outputs.{written};
 ghost use Rattle.tape.specs.Whys.{ImageIsExplained, TellsWhy, WhyEnds};
 
 use crate::several::Drives;
 use crate::whole::read_image;
 use il_ports::{Medium, Sink};
 use std::alloc::Global;
-use tape_says::{end_on, no_memory, print};
+use tape_volumes::{end_on, no_memory, print};
 use tape_why::{Explained, explain};
 
 /// Prints why an image of these bytes can or cannot be listed and changed, and says the exit status.
@@ -58,10 +59,14 @@ pub fn why_image<M: Medium + Drop, D: Drives<M>, K: Sink, E: Sink>(
     out: &mut K,
     error: &mut E,
 ) -> u8
-    ensures { ImageIsExplained (sight M.view M.refuses) image.now result
+    requires back { D.all_back readers.old ≡ true }
+    ensures explained { ImageIsExplained (sight M.view M.refuses) image.now result
         (written (K.written out.old) (K.faults out.old) (E.written error.old) (E.faults error.old))
         (written (K.written out.new) (K.faults out.new) (E.written error.new) (E.faults error.new)) }
+    ensures drives { UsesDrives 1 (D.given readers.old) (D.given readers.new) (D.all_back readers.new) }
 {
     let mut drive = readers.drive();
-    why_in(alloc, &mut drive, image, out, error)
+    let status = why_in(alloc, &mut drive, image, out, error);
+    readers.back(drive);
+    status
 }

@@ -1,13 +1,17 @@
 -- A file that is kept in a folder: it is written there, unless the folder has something of that name.
-use Rattle.std.specs.Prelude.{◌≡◌, ◌≢◌, ◌⊎◌, ◌≤◌, ◌<◌, ℕ, List, [], true, false, Option, Some, None, Result, Ok, Err, is_some}
+use Rattle.std.specs.Prelude.{◌≡◌, ◌≢◌, ◌⊎◌, ◌≤◌, ◌<◌, ℕ, List, [], true, Option, Some, None, Result, Ok, Err, is_some}
 use Rattle.lif_model.specs.Causes.{Rose}
-use Rattle.tape_folder.specs.Folders.{FolderView, IsUnusedName, IsUsedName, SameFolder, ShowsFiles, file_in_folder, is_hidden, part_name, Nothing}
+use Rattle.tape_folder.specs.Folders.{FolderView, IsUnusedName, IsUsedName, SameFolder, ShowsFiles, file_in_folder, part_name, Nothing}
 use Rattle.tape_folder.specs.declared.keeping.Kept.{Kept}
 use Rattle.tape_folder.specs.declared.keeping.Kept.TheVariants as kept
 
 -- how many numbers part files have
 abbrev pub part_numbers : ℕ
 part_numbers = 1000
+
+-- the name of one of the part files
+abbrev pub IsPartName : List ℕ → Type 0
+IsPartName name = (number : ℕ) × (number < part_numbers) × (name ≡ part_name number)
 
 -- for each of the first n numbers, something has the name of the part file
 abbrev pub AreTaken : ℕ → FolderView → Type 0
@@ -33,9 +37,10 @@ OfPart v name content = v.part ≡ Some name
 
 -- a part file without a byte is open, or no file has changed
 pub record IsPartOpened (v w : FolderView) : Type 0 where
-  pub part : List ℕ
-  pub is_open : w.part ≡ Some part
-  pub free : IsUnusedName part v
+  pub number : ℕ
+  pub below : number < part_numbers
+  pub is_open : w.part ≡ Some (part_name number)
+  pub free : IsUnusedName (part_name number) v
   pub steps : Steps (OfPart w) v w
   pub empty : ShowsFiles w → w.written ≡ Some []
 
@@ -111,13 +116,14 @@ pub record FileKept (name bytes : List ℕ) (answer : Kept) (v w : FolderView) :
   pub closed : w.part ≡ None
   pub known : is_some w.files ≡ is_some v.files
   pub answer_is : KeptIs name bytes v w answer
-  -- each other file that is not hidden is as before
-  pub others : (other : List ℕ) → (file_in_folder other w.files ≡ file_in_folder other v.files) ⊎ ((other ≡ name) ⊎ (is_hidden other ≡ true))
-  -- a part file was not removed, or the hidden files are as before
-  pub parts : Rose v.unremoved w.unremoved ⊎ ((other : List ℕ) → is_hidden other ≡ true → file_in_folder other w.files ≡ file_in_folder other v.files)
+  -- each other file is as before, unless its name is that of a part file and no file had it
+  pub others : (other : List ℕ) → (file_in_folder other w.files ≡ file_in_folder other v.files)
+      ⊎ ((other ≡ name) ⊎ (IsPartName other × (file_in_folder other v.files ≡ None)))
+  -- a part file was not removed, or the part files are as before
+  pub parts : Rose v.unremoved w.unremoved ⊎ ((other : List ℕ) → IsPartName other → file_in_folder other w.files ≡ file_in_folder other v.files)
   -- a stop may leave what it could leave before, or the whole file if it was written
-  pub leaves : (other : List ℕ) (content : Option (List ℕ)) → ShowsFiles v → is_hidden other ≡ false → w.leaves other content → v.leaves other content ⊎ KeptMakes name bytes answer other content
-  pub left : (other : List ℕ) (content : Option (List ℕ)) → ShowsFiles v → is_hidden other ≡ false → w.left other content → v.left other content ⊎ KeptMakes name bytes answer other content
+  pub leaves : (other : List ℕ) (content : Option (List ℕ)) → ShowsFiles v → (IsPartName other → ⊥) → w.leaves other content → v.leaves other content ⊎ KeptMakes name bytes answer other content
+  pub left : (other : List ℕ) (content : Option (List ℕ)) → ShowsFiles v → (IsPartName other → ⊥) → w.left other content → v.left other content ⊎ KeptMakes name bytes answer other content
   -- no count falls
   pub failures : v.failures ≤ w.failures
   pub unremoved : v.unremoved ≤ w.unremoved

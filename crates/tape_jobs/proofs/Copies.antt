@@ -29,17 +29,17 @@ use Rattle.il_script.specs.declared.reply.Reply.{Reply}
 use Rattle.il_script.specs.declared.reply.Reply.TheVariants as reply
 use Rattle.lif_model.specs.Shelf.{Shelf}
 use Rattle.tape_folder.specs.Folders.{FolderView, FolderGoesOn, IsFolder, Nothing, SameFolder, file_in_folder, is_hidden, part_name}
-use Rattle.tape_folder.specs.Keeping.{AreTaken, FileKept, KeptIs, KeptMakes, part_numbers}
+use Rattle.tape_folder.specs.Keeping.{AreTaken, FileKept, IsPartName, KeptIs, KeptMakes, part_numbers}
 use Rattle.tape_folder.proofs.Steps.{same_on}
 use Rattle.tape_folder.specs.declared.keeping.Kept.{Kept}
 use Rattle.tape_folder.specs.declared.keeping.Kept.TheVariants as kept
-use Rattle.tape_jobs.specs.Volumes.{CommandDid, DoneWhole, FileContent, IsFileAt, Mounted, StaysBeside, StopLeaves, VolumesView, file_on, is_reading, volume_seen, volume_shown}
+use Rattle.tape_volumes.specs.Volumes.{CommandDid, DoneWhole, FileContent, IsFileAt, Mounted, StaysBeside, StopLeaves, VolumesView, file_on, is_reading, volume_seen, volume_shown}
 use Rattle.tape_jobs.specs.declared.copying.FileEnd.{FileEnd}
 use Rattle.tape_jobs.specs.declared.copying.FileEnd.TheVariants as file_end
 use Rattle.tape_jobs.specs.declared.copying.Taken.{Taken}
-use Rattle.tape_jobs.specs.declared.went.Went.{Went}
-use Rattle.tape_jobs.specs.declared.went.Went.TheVariants as went
-use Rattle.tape_jobs.specs.Out.{AreCopied, AreNamesCopied, Copied, CopyDid, EndIs, EndsAre, FolderGains, FolderKeeps, FolderWent, GoesOnBeside, IsKeptSo, IsReadOnly, OnlyReads, OutDid, RoseBy, WentSo, WereUnable, WritesFile, WrittenBy, has_failed, has_fault, host_name, is_before_folder, is_failed_read, is_not_written, named, not_written_count}
+use Rattle.tape_volumes.specs.declared.went.Went.{Went}
+use Rattle.tape_volumes.specs.declared.went.Went.TheVariants as went
+use Rattle.tape_jobs.specs.Out.{AreCopied, AreNamesCopied, Copied, CopiedSo, CopyDid, EndIs, EndsAre, FolderGains, FolderKeeps, FolderWent, GoesOnBeside, IsKeptSo, IsReadOnly, OnlyReads, RoseBy, WentSo, WereUnable, WritesFile, WrittenBy, has_failed, has_fault, host_name, is_before_folder, is_failed_read, is_not_written, named, not_written_count}
 
 -- ---- the folder keeps what it has
 
@@ -56,10 +56,10 @@ keeps_on f h g a b = record {
   folder = same_on f h g a.folder b.folder;
   closed = b.closed;
   known = b.known ∙ a.known;
-  keeps = λ other bytes plain here. b.keeps other bytes plain (a.keeps other bytes plain here);
+  keeps = λ other bytes here. b.keeps other bytes (a.keeps other bytes here);
   parts = ⊎_elim (λ rose. inl (rose_within f.unremoved f.unremoved h.unremoved g.unremoved (omega arith) rose b.unremoved))
       (λ was. ⊎_elim (λ rose. inl (rose_within f.unremoved h.unremoved g.unremoved g.unremoved a.unremoved rose (omega arith)))
-      (λ same. inr (λ other hidden. same other hidden ∙ was other hidden)) b.parts) a.parts;
+      (λ same. inr (λ other part. same other part ∙ was other part)) b.parts) a.parts;
   failures = omega (arith, a.failures, b.failures);
   unremoved = omega (arith, a.unremoved, b.unremoved);
 }
@@ -69,8 +69,8 @@ keeps_none f closed = record {
   folder = record { path = refl; made = λ there. there; others = λ name. refl };
   closed = closed;
   known = refl;
-  keeps = λ other bytes plain here. here;
-  parts = inr (λ other hidden. refl);
+  keeps = λ other bytes here. here;
+  parts = inr (λ other part. refl);
   failures = omega arith;
   unremoved = omega arith;
 }
@@ -81,8 +81,8 @@ keeps_quiet f g closed on = record {
   folder = on.folder;
   closed = closed;
   known = on.known;
-  keeps = λ other bytes plain here. same other ∙ here;
-  parts = inr (λ other hidden. same other);
+  keeps = λ other bytes here. same other ∙ here;
+  parts = inr (λ other part. same other);
   failures = on.failures;
   unremoved = on.unremoved;
 }
@@ -101,9 +101,9 @@ keeps_file name bytes k f g is = record {
   folder = is.folder;
   closed = is.closed;
   known = is.known;
-  keeps = λ other content plain here. ⊎_elim (λ same. same ∙ here)
+  keeps = λ other content here. ⊎_elim (λ same. same ∙ here)
       (⊎_elim (λ named. subst (λ (x : List ℕ). file_in_folder x g.files ≡ Some content) (sym named) (still_there name bytes content k f g is.answer_is (subst (λ (x : List ℕ). file_in_folder x f.files ≡ Some content) named here)))
-      (λ hidden. let no : true ≡ false = sym hidden ∙ plain in cc)) (is.others other);
+      (λ part. let no : ◌≡◌ {A = Option (List ℕ)} None (Some content) = sym part.1 ∙ here in cc)) (is.others other);
   parts = is.parts;
   failures = is.failures;
   unremoved = is.unremoved;
@@ -115,8 +115,8 @@ pub gains_on : (first second all : List ℕ → Option (List ℕ) → Type 0) (f
     → ((other : List ℕ) (content : Option (List ℕ)) → second other content → all other content) → is_some h.files ≡ is_some f.files → FolderGains first f h → FolderGains second h g → FolderGains all f g
 gains_on first second all f h g in_first in_second known a b = record {
   files = λ other. ⊎_elim (λ same. ⊎_elim (λ was. inl (same ∙ was))
-      (⊎_elim (λ made. inr (inl (in_first other _ (subst (first other) (sym same) made)))) (λ hidden. inr (inr hidden))) (a.files other))
-      (⊎_elim (λ made. inr (inl (in_second other _ made))) (λ hidden. inr (inr hidden))) (b.files other);
+      (⊎_elim (λ made. inr (inl (in_first other _ (subst (first other) (sym same) made)))) (λ part. inr (inr part))) (a.files other))
+      (⊎_elim (λ made. inr (inl (in_second other _ made))) (λ part. inr (inr part))) (b.files other);
   leaves = λ other content is plain left. ⊎_elim (λ was. ⊎_elim (λ old. inl old) (λ made. inr (in_first other content made)) (a.leaves other content is plain was))
       (λ made. inr (in_second other content made)) (b.leaves other content (known ∙ is) plain left);
   left = λ other content is plain left. ⊎_elim (λ was. ⊎_elim (λ old. inl old) (λ made. inr (in_first other content made)) (a.left other content is plain was))
@@ -156,34 +156,34 @@ module _ (v : Volume) (name : Name) (file : FileContent) (on : file_on v (name_b
   unseen (Some before) now other known off = cc
 
   by_seen : (seen : Bool) → is_some f.files ≡ seen → is_some g.files ≡ is_some f.files → KeptIs host file.bytes f g kept.Written
-      → (file_in_folder host g.files ≡ file_in_folder host f.files) ⊎ (WritesFile v name (file_end.Kept kept.Written) host (file_in_folder host g.files) ⊎ (is_hidden host ≡ true))
+      → (file_in_folder host g.files ≡ file_in_folder host f.files) ⊎ (WritesFile v name (file_end.Kept kept.Written) host (file_in_folder host g.files) ⊎ IsPartName host)
   by_seen true seen known is = inr (inl (file, on, refl, (is seen).1))
   by_seen false seen known is = inl (unseen f.files g.files host known seen)
 
   at_host : (k : Kept) → is_some g.files ≡ is_some f.files → KeptIs host file.bytes f g k
-      → (file_in_folder host g.files ≡ file_in_folder host f.files) ⊎ (WritesFile v name (file_end.Kept k) host (file_in_folder host g.files) ⊎ (is_hidden host ≡ true))
+      → (file_in_folder host g.files ≡ file_in_folder host f.files) ⊎ (WritesFile v name (file_end.Kept k) host (file_in_folder host g.files) ⊎ IsPartName host)
   at_host kept.Written known is = by_seen (is_some f.files) refl known is
   at_host kept.WasThere known is = at_known (is_some f.files) refl
     where
-      at_known : (seen : Bool) → is_some f.files ≡ seen → (file_in_folder host g.files ≡ file_in_folder host f.files) ⊎ (WritesFile v name (file_end.Kept kept.WasThere) host (file_in_folder host g.files) ⊎ (is_hidden host ≡ true))
+      at_known : (seen : Bool) → is_some f.files ≡ seen → (file_in_folder host g.files ≡ file_in_folder host f.files) ⊎ (WritesFile v name (file_end.Kept kept.WasThere) host (file_in_folder host g.files) ⊎ IsPartName host)
       at_known true seen = inl ((is seen).1 ∙ sym (is seen).0)
       at_known false seen = inl (unseen f.files g.files host known seen)
   at_host kept.Differs known is = at_known (is_some f.files) refl
     where
-      at_known : (seen : Bool) → is_some f.files ≡ seen → (file_in_folder host g.files ≡ file_in_folder host f.files) ⊎ (WritesFile v name (file_end.Kept kept.Differs) host (file_in_folder host g.files) ⊎ (is_hidden host ≡ true))
+      at_known : (seen : Bool) → is_some f.files ≡ seen → (file_in_folder host g.files ≡ file_in_folder host f.files) ⊎ (WritesFile v name (file_end.Kept kept.Differs) host (file_in_folder host g.files) ⊎ IsPartName host)
       at_known true seen = inl (is seen).2
       at_known false seen = inl (unseen f.files g.files host known seen)
   at_host kept.NotWritten known is = inl is.0
 
   pub gains_file : (k : Kept) → FileKept host file.bytes k f g → FolderGains (WritesFile v name (file_end.Kept k)) f g
   gains_file k is = record {
-    files = λ other. ⊎_elim inl (⊎_elim (λ named. at other named) (λ hidden. inr (inr hidden))) (is.others other);
+    files = λ other. ⊎_elim inl (⊎_elim (λ named. at other named) (λ part. inr (inr part.0))) (is.others other);
     leaves = λ other content known plain left. ⊎_elim inl (λ made. inr (makes_file k other content made)) (is.leaves other content known plain left);
     left = λ other content known plain left. ⊎_elim inl (λ made. inr (makes_file k other content made)) (is.left other content known plain left);
   }
     where
-      at : (other : List ℕ) → other ≡ host → (file_in_folder other g.files ≡ file_in_folder other f.files) ⊎ (WritesFile v name (file_end.Kept k) other (file_in_folder other g.files) ⊎ (is_hidden other ≡ true))
-      at other named = subst (λ (x : List ℕ). (file_in_folder x g.files ≡ file_in_folder x f.files) ⊎ (WritesFile v name (file_end.Kept k) x (file_in_folder x g.files) ⊎ (is_hidden x ≡ true))) (sym named) (at_host k is.known is.answer_is)
+      at : (other : List ℕ) → other ≡ host → (file_in_folder other g.files ≡ file_in_folder other f.files) ⊎ (WritesFile v name (file_end.Kept k) other (file_in_folder other g.files) ⊎ IsPartName other)
+      at other named = subst (λ (x : List ℕ). (file_in_folder x g.files ≡ file_in_folder x f.files) ⊎ (WritesFile v name (file_end.Kept k) x (file_in_folder x g.files) ⊎ IsPartName x)) (sym named) (at_host k is.known is.answer_is)
 
   so : (k : Kept) → SameFolder f g → KeptIs host file.bytes f g k → IsKeptSo host file.bytes k f g
   so kept.Written is_folder is = is
@@ -205,48 +205,45 @@ written_last v (taken ∷ rest) more other content written = inr (written_last v
 
 -- ---- the ends
 
-part_is_hidden : (number : ℕ) → is_hidden (part_name number) ≡ true
-part_is_hidden number = refl
-
 module _ (f h g : FolderView) (a : FolderKeeps f h) (b : FolderKeeps h g) where
   pub were_taken : AreTaken part_numbers h → Rose f.unremoved g.unremoved ⊎ AreTaken part_numbers f
   were_taken taken = ⊎_elim (λ rose. inl (rose_within f.unremoved f.unremoved h.unremoved g.unremoved (omega arith) rose b.unremoved))
-      (λ same. inr (λ number lt known. ⊎_elim (λ file. inl (ap is_some (sym (same (part_name number) (part_is_hidden number))) ∙ file))
+      (λ same. inr (λ number lt known. ⊎_elim (λ file. inl (ap is_some (sym (same (part_name number) (number, lt, refl))) ∙ file))
       (λ other. inr (sym (a.folder.others (part_name number)) ∙ other)) (taken number lt (a.known ∙ known)))) a.parts
 
-  so_before : (name bytes : List ℕ) (k : Kept) → is_hidden name ≡ false → IsKeptSo name bytes k h g → IsKeptSo name bytes k f g
-  so_before name bytes kept.Written plain is = λ known. let both = is (a.known ∙ known) in (
+  so_before : (name bytes : List ℕ) (k : Kept) → IsKeptSo name bytes k h g → IsKeptSo name bytes k f g
+  so_before name bytes kept.Written is = λ known. let both = is (a.known ∙ known) in (
     record {
-      no_file = none_unless (file_in_folder name f.files) (λ old here. let no : ◌≡◌ {A = Option (List ℕ)} None (Some old) = sym both.0.no_file ∙ a.keeps name old plain here in cc);
+      no_file = none_unless (file_in_folder name f.files) (λ old here. let no : ◌≡◌ {A = Option (List ℕ)} None (Some old) = sym both.0.no_file ∙ a.keeps name old here in cc);
       no_other = sym (a.folder.others name) ∙ both.0.no_other;
     },
     both.1,
   )
-  so_before name bytes kept.WasThere plain is = λ known. is (a.known ∙ known)
-  so_before name bytes kept.Differs plain is = λ known. let both = is (a.known ∙ known) in (λ here. both.0 (a.keeps name bytes plain here), both.1)
-  so_before name bytes kept.NotWritten plain is = ⊎_elim (λ rose. inl (rose_within f.failures h.failures g.failures g.failures a.failures rose (omega arith)))
+  so_before name bytes kept.WasThere is = λ known. is (a.known ∙ known)
+  so_before name bytes kept.Differs is = λ known. let both = is (a.known ∙ known) in (λ here. both.0 (a.keeps name bytes here), both.1)
+  so_before name bytes kept.NotWritten is = ⊎_elim (λ rose. inl (rose_within f.failures h.failures g.failures g.failures a.failures rose (omega arith)))
       (⊎_elim (λ rose. inr (inl (rose_within f.unremoved h.unremoved g.unremoved g.unremoved a.unremoved rose (omega arith)))) (λ taken. inr (were_taken taken))) is
 
-  other_stays : (name bytes : List ℕ) → is_hidden name ≡ false → (content : Option (List ℕ)) → file_in_folder name h.files ≡ content → is_some content ≡ true → content ≢ Some bytes
+  other_stays : (name bytes : List ℕ) (content : Option (List ℕ)) → file_in_folder name h.files ≡ content → is_some content ≡ true → content ≢ Some bytes
       → (is_some (file_in_folder name g.files) ≡ true) × (file_in_folder name g.files ≢ Some bytes)
-  other_stays name bytes plain None is seen not = cc
-  other_stays name bytes plain (Some old) is seen not = let there = b.keeps name old plain is in (ap is_some there, λ here. not (sym there ∙ here))
+  other_stays name bytes None is seen not = cc
+  other_stays name bytes (Some old) is seen not = let there = b.keeps name old is in (ap is_some there, λ here. not (sym there ∙ here))
 
-  so_after : (name bytes : List ℕ) (k : Kept) → is_hidden name ≡ false → IsKeptSo name bytes k f h → IsKeptSo name bytes k f g
-  so_after name bytes kept.Written plain is = λ known. ((is known).0, b.keeps name bytes plain (is known).1)
-  so_after name bytes kept.WasThere plain is = λ known. b.keeps name bytes plain (is known)
-  so_after name bytes kept.Differs plain is = λ known. let both = is known in
-      (both.0, ⊎_elim (λ file. inl (other_stays name bytes plain (file_in_folder name h.files) refl file.0 file.1)) (λ other. inr (b.folder.others name ∙ other)) both.1)
-  so_after name bytes kept.NotWritten plain is = ⊎_elim (λ rose. inl (rose_within f.failures f.failures h.failures g.failures (omega arith) rose b.failures))
+  so_after : (name bytes : List ℕ) (k : Kept) → IsKeptSo name bytes k f h → IsKeptSo name bytes k f g
+  so_after name bytes kept.Written is = λ known. ((is known).0, b.keeps name bytes (is known).1)
+  so_after name bytes kept.WasThere is = λ known. b.keeps name bytes (is known)
+  so_after name bytes kept.Differs is = λ known. let both = is known in
+      (both.0, ⊎_elim (λ file. inl (other_stays name bytes (file_in_folder name h.files) refl file.0 file.1)) (λ other. inr (b.folder.others name ∙ other)) both.1)
+  so_after name bytes kept.NotWritten is = ⊎_elim (λ rose. inl (rose_within f.failures f.failures h.failures g.failures (omega arith) rose b.failures))
       (⊎_elim (λ rose. inr (inl (rose_within f.unremoved f.unremoved h.unremoved g.unremoved (omega arith) rose b.unremoved))) (λ taken. inr (inr taken))) is
 
   end_before : (n : ℕ) (v : Volume) (name : Name) (end : FileEnd) → EndIs n v name end h g → EndIs n v name end f g
-  end_before n v name (file_end.Kept k) is = (is.0, is.1, is.2, so_before _ _ k is.2 is.3)
+  end_before n v name (file_end.Kept k) is = (is.0, is.1, is.2, so_before _ _ k is.3)
   end_before n v name (file_end.Refused code) is = is
   end_before n v name file_end.Fault is = is
 
   end_after : (n : ℕ) (v : Volume) (name : Name) (end : FileEnd) → EndIs n v name end f h → EndIs n v name end f g
-  end_after n v name (file_end.Kept k) is = (is.0, is.1, is.2, so_after _ _ k is.2 is.3)
+  end_after n v name (file_end.Kept k) is = (is.0, is.1, is.2, so_after _ _ k is.3)
   end_after n v name (file_end.Refused code) is = is
   end_after n v name file_end.Fault is = is
 
@@ -613,7 +610,7 @@ finished_on false s u t off first reads seen x z is now = between u.tape seen fi
     between (Some y) seen first last = joins y (first x y is refl) (last y z refl now)
 
 -- after the directory was read
-pub out_listed : (w : Went) (asked : List Name) (ends : List Taken) (s u t : Mounted) (f g : FolderView) → f.part ≡ None → CommandDid Dir reply.Ok s u → CopyDid w asked ends u t f g → OutDid w asked ends s t f g
+pub out_listed : (w : Went) (asked : List Name) (ends : List Taken) (s u t : Mounted) (f g : FolderView) → f.part ≡ None → CommandDid Dir reply.Ok s u → CopyDid w asked ends u t f g → CopiedSo w asked ends s t f g
 out_listed w asked ends s u t f g closed did copies = record {
   did = record {
     copied = copied_on false (has_failed w ends) [] ends s u t f f g (copied_none false s u f closed (command_reads Dir s u dir_reads refl reply.Ok did)) copies.copied;
@@ -623,7 +620,7 @@ out_listed w asked ends s u t f g closed did copies = record {
 }
 
 -- the command that reads the directory was refused
-pub out_refused : (code : Code) (asked : List Name) (s t : Mounted) (f : FolderView) → f.part ≡ None → CommandDid Dir (reply.No code) s t → OutDid (went.Refused code) asked [] s t f f
+pub out_refused : (code : Code) (asked : List Name) (s t : Mounted) (f : FolderView) → f.part ≡ None → CommandDid Dir (reply.No code) s t → CopiedSo (went.Refused code) asked [] s t f f
 out_refused code asked s t f closed did = record {
   did = record {
     copied = copied_none false s t f closed (command_reads Dir s t dir_reads refl (reply.No code) did);
@@ -633,7 +630,7 @@ out_refused code asked s t f closed did = record {
 }
 
 -- the medium failed
-pub out_fault : (r : Reply) (asked : List Name) (s t : Mounted) (f : FolderView) → f.part ≡ None → reply_failed r ≡ true → CommandDid Dir r s t → OutDid went.Fault asked [] s t f f
+pub out_fault : (r : Reply) (asked : List Name) (s t : Mounted) (f : FolderView) → f.part ≡ None → reply_failed r ≡ true → CommandDid Dir r s t → CopiedSo went.Fault asked [] s t f f
 out_fault r asked s t f closed failed did = record {
   did = record {
     copied = copied_none true s t f closed (subst (λ (b : Bool). OnlyReads b s t) failed (command_reads Dir s t dir_reads refl r did));
@@ -643,14 +640,14 @@ out_fault r asked s t f closed failed did = record {
 }
 
 -- no file was copied, for want of memory
-pub copy_unable : (asked : List Name) (s : Mounted) (f : FolderView) → f.part ≡ None → CopyDid went.OutOfMemory asked [] s s f f
-copy_unable asked s f closed = record { copied = copied_none false s s f closed (reads_none s); went_so = refl }
+pub copy_unable : (asked : List Name) (s : Mounted) (f : FolderView) → f.part ≡ None → volume_shown s.tape ≡ None → CopyDid went.OutOfMemory asked [] s s f f
+copy_unable asked s f closed unseen = record { copied = copied_none false s s f closed (reads_none s); went_so = (refl, unseen) }
 
 went_named : (w : Went) (n : ℕ) (asked names : List Name) (shown : Option (Option Volume)) (ends : List Taken) (f g : FolderView) → AreNamesCopied n asked shown names
     → FolderWent w (λ copied. copied ≡ names) ends f g → WentSo w n asked shown ends f g
 went_named went.Done n asked names shown ends f g are so = (so.0, subst (AreNamesCopied n asked shown) (sym so.1) are, so.2, so.3)
 went_named went.NotAll n asked names shown ends f g are so = (so.0, subst (AreNamesCopied n asked shown) (sym so.1) are, so.2, so.3)
-went_named went.FolderLost n asked names shown ends f g are so = (so.0, ⊎_elim inl (λ same. inr (subst (AreNamesCopied n asked shown) (sym same) are)) so.1)
+went_named went.FolderLost n asked names shown ends f g are so = (so.0, ⊎_elim inl (λ lost. inr (subst (AreNamesCopied n asked shown) (sym lost.0) are, lost.1, lost.2)) so.1)
 went_named (went.Refused code) n asked names shown ends f g are so = absurd so
 went_named went.Fault n asked names shown ends f g are so = absurd so
 went_named went.OutOfMemory n asked names shown ends f g are so = absurd so

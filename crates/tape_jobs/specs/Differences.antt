@@ -5,7 +5,7 @@ use Rattle.std.specs.Str.{bytes_eq}
 use Rattle.lif_model.specs.Printed.{printed}
 use Rattle.lif_dir.specs.Entries.{name_bytes}
 use Rattle.tape_jobs.specs.Collecting.{collected_content}
-use Rattle.tape_jobs.specs.Volumes.{FileContent}
+use Rattle.tape_volumes.specs.Volumes.{FileContent}
 use Rattle.tape_jobs.specs.declared.collecting.Collected.{Collected}
 
 -- a file with its name, which has ten bytes

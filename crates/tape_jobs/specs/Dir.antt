@@ -1,8 +1,9 @@
 -- What the job `dir` does on one image, and each other job that writes a text for a volume.
-use Rattle.std.specs.Prelude.{◌≡◌, ◌++◌, ℕ, Bool, List, map, Option, Some, option_map}
+use Rattle.std.specs.Prelude.{◌≡◌, ◌⊎◌, ◌≤◌, ◌+◌, ◌++◌, ℕ, Bool, true, false, List, length, map, Option, Some, None, option_map}
 use Rattle.std.specs.Io.KnownBytes.{Appends}
 use Rattle.lif_model.specs.Causes.{Rose}
 use Rattle.lif_model.specs.Header.{HeaderParts, header_of}
+use Rattle.lif_model.specs.Tape.{Tape}
 use Rattle.lif_model.specs.Volume.{Volume}
 use Rattle.lif_model.specs.Apply.{Dir}
 use Rattle.lif_dir.specs.Entries.{slot_from}
@@ -15,11 +16,13 @@ use Rattle.tape_text.specs.Rows.{rows_of, rows_text}
 use Rattle.tape_text.specs.Free.{free_text}
 use Rattle.tape_text.specs.Map.{map_text}
 use Rattle.tape_text.specs.Picture.{picture_text}
-use Rattle.tape_jobs.specs.Volumes.{Mounted, CommandDid, volume_shown}
+use Rattle.tape_text.specs.Pages.{text_room}
+use Rattle.tape_volumes.specs.Volumes.{Mounted, CommandDid, DoneOrNot, volume_shown}
+use Rattle.tape_volumes.specs.Outputs.{WritesNothing}
 use Rattle.tape_jobs.specs.declared.listing.Style.{Style}
 use Rattle.tape_jobs.specs.declared.listing.Style.TheVariants as style
-use Rattle.tape_jobs.specs.declared.went.Went.{Went}
-use Rattle.tape_jobs.specs.declared.went.Went.TheVariants as went
+use Rattle.tape_volumes.specs.declared.went.Went.{Went}
+use Rattle.tape_volumes.specs.declared.went.Went.TheVariants as went
 
 -- The text for a volume on a medium of n records: a listing, after the name of its image if it has a heading; or rows of CSV;
 -- or what is free; or a map or a picture of its records. The last three do not depend on `all`.
@@ -33,35 +36,50 @@ styled_text style.Picture all n h slots = picture_text n h slots
 abbrev pub volume_text : Style → Bool → ℕ → Volume → List ℕ
 volume_text style all n v = styled_text style all n (header_of v.header) (map slot_from v.slots)
 
--- standard output, and its count of faults, are as before
-abbrev pub WritesNothing : (before now : Option (List ℕ)) (faults faults_now : ℕ) → Type 0
-WritesNothing before now faults faults_now = (now ≡ before) × (faults_now ≡ faults)
+-- the pages of a text have room for it; rows of CSV use no pages
+abbrev pub HasRoomFor : Style → (n room : ℕ) → Type 0
+HasRoomFor (style.Columns heading) n room = length (heading_of (option_map (λ name. name.now) heading)) + text_room n ≤ room
+HasRoomFor (style.Rows image) n room = Unit {0}
+HasRoomFor style.Free n room = text_room n ≤ room
+HasRoomFor style.Map n room = text_room n ≤ room
+HasRoomFor style.Picture n room = text_room n ≤ room
 
--- The text was written: all of it; or a front of it, and then standard output failed; or there was no memory.
-abbrev pub WritesText : Went → List ℕ → (before now : Option (List ℕ)) (faults faults_now : ℕ) → Type 0
-WritesText went.Done text before now faults faults_now = Appends before now text × (faults_now ≡ faults)
-WritesText went.Unwritten text before now faults faults_now = WritesFront before now text × Rose faults faults_now
-WritesText went.OutOfMemory text before now faults faults_now = WritesNothing before now faults faults_now
-WritesText _ text before now faults faults_now = ⊥
+-- rows of CSV take memory while they are written; each other text has all its memory before
+abbrev pub takes_memory : Style → Bool
+takes_memory (style.Columns heading) = false
+takes_memory (style.Rows image) = true
+takes_memory style.Free = false
+takes_memory style.Map = false
+takes_memory style.Picture = false
 
--- The text for the volume, if contracts can see it, was written: all of it; or a front of it, and then standard output failed; or there was no memory.
-abbrev pub WritesListing : Went → (Volume → List ℕ) → Option (Option Volume) → (before now : Option (List ℕ)) (faults faults_now : ℕ) → Type 0
-WritesListing went.Done text shown before now faults faults_now =
+-- After the directory was read, memory can be short only for rows of CSV, or if contracts cannot see the tape.
+abbrev pub MayLackMemory : Style → Option Tape → Type 0
+MayLackMemory style tape = (takes_memory style ≡ true) ⊎ (tape ≡ None)
+
+-- The text for the volume, if contracts can see it, was written: all of it; or a front of it, and then standard output failed; or there
+-- was no memory, which may be only if `lacks` holds.
+abbrev pub WritesListing : (lacks : Type 0) → Went → (Volume → List ℕ) → Option (Option Volume) → (before now : Option (List ℕ)) (faults faults_now : ℕ) → Type 0
+WritesListing lacks went.Done text shown before now faults faults_now =
     ((v : Volume) → shown ≡ Some (Some v) → Appends before now (text v)) × (faults_now ≡ faults)
-WritesListing went.Unwritten text shown before now faults faults_now =
+WritesListing lacks went.Unwritten text shown before now faults faults_now =
     ((v : Volume) → shown ≡ Some (Some v) → WritesFront before now (text v)) × Rose faults faults_now
-WritesListing went.OutOfMemory text shown before now faults faults_now = WritesNothing before now faults faults_now
-WritesListing _ text shown before now faults faults_now = ⊥
+WritesListing lacks went.OutOfMemory text shown before now faults faults_now = lacks × WritesNothing before now faults faults_now
+WritesListing lacks _ text shown before now faults faults_now = ⊥
 
 -- the job went so by the reply of the volume
-abbrev pub WentBy : Reply → Went → (Volume → List ℕ) → Option (Option Volume) → (before now : Option (List ℕ)) (faults faults_now : ℕ) → Type 0
-WentBy reply.Ok w text shown before now faults faults_now = WritesListing w text shown before now faults faults_now
-WentBy (reply.No code) w text shown before now faults faults_now = (w ≡ went.Refused code) × WritesNothing before now faults faults_now
-WentBy reply.FaultMedium w text shown before now faults faults_now = (w ≡ went.Fault) × WritesNothing before now faults faults_now
-WentBy reply.FaultFrame w text shown before now faults faults_now = ⊥
+abbrev pub WentBy : Reply → (lacks : Type 0) → Went → (Volume → List ℕ) → Option (Option Volume) → (before now : Option (List ℕ)) (faults faults_now : ℕ) → Type 0
+WentBy reply.Ok lacks w text shown before now faults faults_now = WritesListing lacks w text shown before now faults faults_now
+WentBy (reply.No code) lacks w text shown before now faults faults_now = (w ≡ went.Refused code) × WritesNothing before now faults faults_now
+WentBy reply.FaultMedium lacks w text shown before now faults faults_now = (w ≡ went.Fault) × WritesNothing before now faults faults_now
+WentBy reply.FaultFrame lacks w text shown before now faults faults_now = ⊥
 
 -- The volume was listed, and by its reply the job went so.
-pub record DirDid (w : Went) (style : Style) (all : Bool) (s t : Mounted) (before now : Option (List ℕ)) (faults faults_now : ℕ) : Type 0 where
+pub record ListedSo (w : Went) (style : Style) (all : Bool) (s t : Mounted) (before now : Option (List ℕ)) (faults faults_now : ℕ) : Type 0 where
   pub answer : Reply
   pub did : CommandDid Dir answer s t
-  pub went_so : WentBy answer w (volume_text style all t.records) (volume_shown t.tape) before now faults faults_now
+  pub went_so : WentBy answer (MayLackMemory style t.tape) w (volume_text style all t.records) (volume_shown t.tape) before now faults faults_now
+
+-- The volume was listed; or there was no memory for its text, and then nothing was read or written.
+abbrev pub DirDid : (w : Went) (style : Style) (all : Bool) (s t : Mounted) (before now : Option (List ℕ)) (faults faults_now : ℕ) → Type 0
+DirDid w style all s t before now faults faults_now =
+    DoneOrNot (λ w s t. ListedSo w style all s t before now faults faults_now) (WritesNothing before now faults faults_now) w s t

@@ -1,5 +1,5 @@
 -- What the job `out` does, which copies files of an image into a folder.
-use Rattle.std.specs.Prelude.{◌≡◌, ◌≢◌, ◌⊎◌, ◌≤◌, ◌+◌, ◌-◌, ◌^◌, ◌&&◌, ◌||◌, ℕ, min, Bool, true, false, List, [], ◌∷◌, map, Option, Some, None, is_some}
+use Rattle.std.specs.Prelude.{◌≡◌, ◌≢◌, ◌⊎◌, ◌≤◌, ◌+◌, ◌-◌, ◌*◌, ◌^◌, ◌&&◌, ◌||◌, ℕ, suc, min, Bool, true, false, List, [], ◌∷◌, length, map, Option, Some, None, is_some}
 use Rattle.std.specs.List.{count_by}
 use Rattle.lif_model.specs.Apply.{Dir, Fetch, apply}
 use Rattle.lif_model.specs.Causes.{Rose}
@@ -9,7 +9,7 @@ use Rattle.lif_model.specs.Redo.{settled}
 use Rattle.lif_model.specs.Commit.{SettlesAs}
 use Rattle.lif_model.specs.Volume.{Volume, volume_of}
 use Rattle.lif_model.specs.Packing.{has_mark}
-use Rattle.lif_dir.specs.Entries.{name_bytes, slot_from}
+use Rattle.lif_dir.specs.Entries.{name_bytes, slot_bytes, slot_from}
 use Rattle.lif_dir.specs.declared.entries.Name.{Name}
 use Rattle.il_script.specs.declared.reply.Code.{Code}
 use Rattle.il_script.specs.declared.reply.Reply.TheVariants as reply
@@ -17,16 +17,16 @@ use Rattle.il_script.specs.Sheet.{Sheet}
 use Rattle.tape_names.specs.HostNames.{host_name_of}
 use Rattle.tape_text.specs.Listing.{shown_files}
 use Rattle.tape_folder.specs.Folders.{FolderView, IsUnusedName, SameFolder, ShowsFiles, file_in_folder, is_hidden}
-use Rattle.tape_folder.specs.Keeping.{AreTaken, part_numbers}
+use Rattle.tape_folder.specs.Keeping.{AreTaken, IsPartName, part_numbers}
 use Rattle.tape_folder.specs.declared.keeping.Kept.{Kept}
 use Rattle.tape_folder.specs.declared.keeping.Kept.TheVariants as kept
 use Rattle.il_ports.specs.Inserting.{OthersAreKept}
-use Rattle.tape_jobs.specs.Volumes.{FileContent, Mounted, OwnsGate, VolumesView, file_on, reply_by, volume_shown}
+use Rattle.tape_volumes.specs.Volumes.{DoneOrNot, FileContent, Mounted, OwnsGate, VolumesView, file_on, reply_by, volume_shown}
 use Rattle.tape_jobs.specs.declared.copying.FileEnd.{FileEnd}
 use Rattle.tape_jobs.specs.declared.copying.FileEnd.TheVariants as file_end
 use Rattle.tape_jobs.specs.declared.copying.Taken.{Taken}
-use Rattle.tape_jobs.specs.declared.went.Went.{Went}
-use Rattle.tape_jobs.specs.declared.went.Went.TheVariants as went
+use Rattle.tape_volumes.specs.declared.went.Went.{Went}
+use Rattle.tape_volumes.specs.declared.went.Went.TheVariants as went
 
 -- the name that a file has on the host
 abbrev pub host_name : List ℕ → FileContent → List ℕ
@@ -43,6 +43,15 @@ HasRoomForName page = 44 ≤ page.room
 abbrev pub AreNamesCopied : (n : ℕ) → (asked : List Name) → (shown : Option (Option Volume)) → (names : List Name) → Type 0
 AreNamesCopied n [] shown names = (v : Volume) → shown ≡ Some (Some v) → names ≡ map (λ e. e.name) (shown_files false n (map slot_from v.slots))
 AreNamesCopied n (name ∷ rest) shown names = names ≡ name ∷ rest
+
+-- if contracts can see the volume, the bytes of each slot are those for which its entry stands
+abbrev pub AreSlotsExact : (shown : Option (Option Volume)) → Type 0
+AreSlotsExact shown = (v : Volume) → shown ≡ Some (Some v) → map slot_bytes (map slot_from v.slots) ≡ v.slots
+
+-- how many files are copied at most: a directory on a medium of n records has no more than 8 * n slots
+abbrev pub most_copied : (n : ℕ) → (asked : List Name) → ℕ
+most_copied n [] = 8 * n
+most_copied n (name ∷ rest) = length (name ∷ rest)
 
 -- a name, if there is one
 abbrev pub named : Option Name → List Name
@@ -128,18 +137,18 @@ pub record FolderKeeps (f g : FolderView) : Type 0 where
   pub closed : g.part ≡ None
   pub known : is_some g.files ≡ is_some f.files
   -- a file that the folder has stays as it is
-  pub keeps : (other bytes : List ℕ) → is_hidden other ≡ false → file_in_folder other f.files ≡ Some bytes → file_in_folder other g.files ≡ Some bytes
-  -- a part file was not removed, or the hidden files are as before
-  pub parts : Rose f.unremoved g.unremoved ⊎ ((other : List ℕ) → is_hidden other ≡ true → file_in_folder other g.files ≡ file_in_folder other f.files)
+  pub keeps : (other bytes : List ℕ) → file_in_folder other f.files ≡ Some bytes → file_in_folder other g.files ≡ Some bytes
+  -- a part file was not removed, or the part files are as before
+  pub parts : Rose f.unremoved g.unremoved ⊎ ((other : List ℕ) → IsPartName other → file_in_folder other g.files ≡ file_in_folder other f.files)
   -- no count falls
   pub failures : f.failures ≤ g.failures
   pub unremoved : f.unremoved ≤ g.unremoved
 
--- Each file that is not hidden is as before, or as it is made. So is what a stop may leave under its name.
+-- Each file that is no part file is as before, or as it is made. So is what a stop may leave under its name.
 pub record FolderGains (makes : List ℕ → Option (List ℕ) → Type 0) (f g : FolderView) : Type 0 where
-  pub files : (other : List ℕ) → (file_in_folder other g.files ≡ file_in_folder other f.files) ⊎ (makes other (file_in_folder other g.files) ⊎ (is_hidden other ≡ true))
-  pub leaves : (other : List ℕ) (content : Option (List ℕ)) → ShowsFiles f → is_hidden other ≡ false → g.leaves other content → f.leaves other content ⊎ makes other content
-  pub left : (other : List ℕ) (content : Option (List ℕ)) → ShowsFiles f → is_hidden other ≡ false → g.left other content → f.left other content ⊎ makes other content
+  pub files : (other : List ℕ) → (file_in_folder other g.files ≡ file_in_folder other f.files) ⊎ (makes other (file_in_folder other g.files) ⊎ IsPartName other)
+  pub leaves : (other : List ℕ) (content : Option (List ℕ)) → ShowsFiles f → (IsPartName other → ⊥) → g.leaves other content → f.leaves other content ⊎ makes other content
+  pub left : (other : List ℕ) (content : Option (List ℕ)) → ShowsFiles f → (IsPartName other → ⊥) → g.left other content → f.left other content ⊎ makes other content
 
 -- a call failed; or the numbers of part files are taken, at the start or after one was not removed
 abbrev pub WasUnableSince : FolderView → FolderView → Type 0
@@ -211,23 +220,24 @@ FilesWentBy went.Done ends = all_copied ends ≡ true
 FilesWentBy went.NotAll ends = all_copied ends ≡ false
 FilesWentBy _ ends = ⊥
 
--- By how the job went: all files were copied, or one was not, the folder is there, and the disk has the names; or a call
--- of the folder failed.
+-- By how the job went: all files were copied, or one was not, the folder is there, and the disk has the names. Or a call
+-- of the folder failed: before a file was to be copied, or besides the calls that failed for the files.
 abbrev pub FolderWent : Went → (AreNames : List Name → Type 0) → (ends : List Taken) → (f g : FolderView) → Type 0
 FolderWent went.Done AreNames ends f g = (all_copied ends ≡ true) × AreNames (map (λ taken. taken.name) ends) × IsOnDisk g × (g.made ≡ true)
 FolderWent went.NotAll AreNames ends f g = (all_copied ends ≡ false) × AreNames (map (λ taken. taken.name) ends) × IsOnDisk g × (g.made ≡ true)
-FolderWent went.FolderLost AreNames ends f g = Rose f.failures g.failures × ((ends ≡ []) ⊎ AreNames (map (λ taken. taken.name) ends))
+FolderWent went.FolderLost AreNames ends f g = Rose f.failures g.failures
+    × ((ends ≡ []) ⊎ (AreNames (map (λ taken. taken.name) ends) × WereUnable (suc (not_written_count ends)) f g × (g.made ≡ true)))
 FolderWent _ AreNames ends f g = ⊥
 
 -- the command `dir` is refused
 abbrev pub IsRefused : Code → (n : ℕ) → (shown : Option (Option Volume)) → Type 0
 IsRefused code n shown = (before : Option Volume) → shown ≡ Some before → reply_by (apply n Dir before).0 ≡ reply.No code
 
--- Why the job went so.
+-- Why the job went so. After the directory was read, memory can be short only if contracts cannot see the volume.
 abbrev pub WentSo : Went → (n : ℕ) → (asked : List Name) → (shown : Option (Option Volume)) → (ends : List Taken) → (f g : FolderView) → Type 0
 WentSo (went.Refused code) n asked shown ends f g = (ends ≡ []) × IsRefused code n shown
 WentSo went.Fault n asked shown ends f g = ends ≡ []
-WentSo went.OutOfMemory n asked shown ends f g = ends ≡ []
+WentSo went.OutOfMemory n asked shown ends f g = (ends ≡ []) × (shown ≡ None)
 WentSo w n asked shown ends f g = FolderWent w (AreNamesCopied n asked shown) ends f g
 
 -- no call of the folder was made
@@ -248,6 +258,10 @@ pub record CopyDid (w : Went) (asked : List Name) (ends : List Taken) (s t : Mou
   pub went_so : WentSo w s.records asked (volume_shown s.tape) ends f g
 
 -- The directory was read, and files were copied. Without a fault the tape is finished.
-pub record OutDid (w : Went) (asked : List Name) (ends : List Taken) (s t : Mounted) (f g : FolderView) : Type 0 where
+pub record CopiedSo (w : Went) (asked : List Name) (ends : List Taken) (s t : Mounted) (f g : FolderView) : Type 0 where
   pub did : CopyDid w asked ends s t f g
   pub finished : has_failed w ends ≡ false → (x y : Tape) → s.tape ≡ Some x → t.tape ≡ Some y → IsFinished x y
+
+-- That was done; or there was no memory for it, and then nothing was read or copied.
+abbrev pub OutDid : (w : Went) (asked : List Name) (ends : List Taken) (s t : Mounted) (f g : FolderView) → Type 0
+OutDid w asked ends s t f g = DoneOrNot (λ w s t. CopiedSo w asked ends s t f g) (ends ≡ []) w s t

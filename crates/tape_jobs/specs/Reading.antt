@@ -9,12 +9,12 @@ use Rattle.il_script.specs.declared.reply.Reply.{Reply}
 use Rattle.il_script.specs.declared.reply.Reply.TheVariants as reply
 use Rattle.tape_names.specs.Sizes.{bytes_told}
 use Rattle.tape_text.specs.Texts.{text_lines, text_size}
-use Rattle.tape_jobs.specs.Dir.{WritesNothing, WritesText}
-use Rattle.tape_jobs.specs.Volumes.{CommandDid, FileContent, IsFileAt, Mounted, volume_shown}
+use Rattle.tape_volumes.specs.Outputs.{WritesNothing, WritesText}
+use Rattle.tape_volumes.specs.Volumes.{CommandDid, FileContent, IsFileAt, Mounted, volume_shown}
 use Rattle.tape_jobs.specs.declared.reading.Part.{Part}
 use Rattle.tape_jobs.specs.declared.reading.Part.TheVariants as part
-use Rattle.tape_jobs.specs.declared.went.Went.{Went}
-use Rattle.tape_jobs.specs.declared.went.Went.TheVariants as went
+use Rattle.tape_volumes.specs.declared.went.Went.{Went}
+use Rattle.tape_volumes.specs.declared.went.Went.TheVariants as went
 
 -- an empty page with room for every file
 abbrev pub HasRoomForFile : Sheet → Type 0

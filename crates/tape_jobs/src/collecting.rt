@@ -2,15 +2,13 @@ ghost use Rattle.std.specs.Prelude.{◌≡◌, [], IfOk, true};
 ghost use Rattle.lif_model.specs.Apply.{Dir};
 ghost use Rattle.tape_jobs.specs.Collecting.{CollectDid, FileCollected, IsAdded, NamedCollected, collected_content};
 ghost use Rattle.tape_jobs.specs.Out.{GoesOnBeside};
-ghost use Rattle.tape_jobs.specs.Volumes.{StaysBeside, StopLeaves, content_in};
+ghost use Rattle.tape_volumes.specs.Volumes.{StaysBeside, StopLeaves, content_in};
 
 use crate::copying::names_to_copy;
-use crate::job::VolumeJob;
-use crate::volumes::{FileRead, Volumes};
-use crate::went::Went;
 use il_script::Reply;
 use lif_dir::Name;
 use std::alloc::{AllocError, Global};
+use tape_volumes::{FileRead, VolumeJob, Volumes, Went};
 
 /// A file of an image, in memory.
 #[derive(Drop)]
@@ -143,7 +141,7 @@ impl VolumeJob for Collecting {
     ghost use Rattle.std.specs.Prelude.{◌≡◌, []};
     ghost use Rattle.lif_model.specs.Apply.{Dir};
     ghost use Rattle.tape_jobs.specs.Collecting.{CollectDid};
-    ghost use Rattle.tape_jobs.specs.Volumes.{StopLeaves};
+    ghost use Rattle.tape_volumes.specs.Volumes.{StopLeaves};
 
     ghost asks = { λ job. job.files.items ≡ [] };
 

@@ -1,4 +1,5 @@
-ghost use Rattle.std.specs.Prelude.{◌≡◌, ◌≤◌, ◌++◌, ◌∷◌, [], None, IfOk, MatchOption, true, false, length, map};
+ghost use Rattle.std.specs.Prelude.{◌≡◌, ◌≤◌, ◌<◌, ◌+◌, ◌++◌, ◌∷◌, [], None, IfOk, OnOk, MatchOption};
+ghost use Rattle.std.specs.Prelude.{true, false, length, map};
 ghost use Rattle.std.specs.Vec.{vec_capacity};
 ghost use Rattle.lif_model.specs.Apply.{Dir};
 ghost use Rattle.lif_dir.specs.Entries.{name_bytes};
@@ -6,14 +7,12 @@ ghost use Rattle.tape_text.specs.Listing.{shown_slot, shown_files};
 ghost use Rattle.tape_folder.specs.Keeping.{FileKept};
 ghost use Rattle.tape_folder.specs.Folders.{is_hidden};
 ghost use Rattle.tape_jobs.specs.Out.{AreNamesCopied, Copied, CopyDid, FolderWent, GoesOnBeside, HasRoomForName};
-ghost use Rattle.tape_jobs.specs.Out.{OutDid, FilesWentBy, named};
-ghost use Rattle.tape_jobs.specs.Out.{all_copied, has_fault, host_name, is_before_folder, is_failed_read};
-ghost use Rattle.tape_jobs.specs.Volumes.{StaysBeside, StopLeaves, content_in, volume_shown};
+ghost use Rattle.tape_jobs.specs.Out.{AreSlotsExact, OutDid, FilesWentBy, named};
+ghost use Rattle.tape_jobs.specs.Out.{all_copied, has_fault, host_name, is_before_folder, is_failed_read, most_copied};
+ghost use Rattle.tape_volumes.specs.Volumes.{StaysBeside, StopLeaves, content_in, volume_shown};
 
-use crate::job::VolumeJob;
 use crate::progress::Progress;
-use crate::volumes::{FileRead, Volumes};
-use crate::went::Went;
+use crate::slot_counts::{are_few, most_slots};
 use il_ports::Sink;
 use il_script::{Code, Page, Reply};
 use lif_dir::{Name, Slot, SlotTable};
@@ -21,6 +20,7 @@ use lif_plan::is_redo_file;
 use std::alloc::{AllocError, Global};
 use tape_folder::{Folder, Kept, keep};
 use tape_names::{host_name_text, put_host_name};
+use tape_volumes::{FileRead, VolumeJob, Volumes, Went};
 
 /// What became of a file that was to be copied.
 #[derive(Clone, Copy, Debug, PartialEq, Eq)]
@@ -186,28 +186,71 @@ fn name_at(size: u16, slot: &Slot) -> Option<Name>
     }
 }
 
-/// Appends a name, if there is one.
-fn add_name(names: &mut Vec<Name>, name: Option<Name>) -> Result<(), AllocError>
-    ensures { IfOk result (λ _. names.new.items ≡ names.old.items ++ named name) }
+/// Appends a name, if there is one. There is room for it.
+fn add_name(names: &mut Vec<Name>, name: Option<Name>)
+    requires room { length names.old.items < vec_capacity names.old }
+    ensures names { names.new.items ≡ names.old.items ++ named name }
+    ensures few { length names.new.items ≤ length names.old.items + 1 }
+    ensures room { vec_capacity names.old ≤ vec_capacity names.new }
 {
     if let Some(name) = name {
-        names.push(name)?;
+        names.push(name).unwrap();
     }
-    Ok(())
 }
 
-/// Returns the names of all files except the redo file.
-fn names_in(alloc: Global, size: u16, slots: &SlotTable) -> Result<Vec<Name>, AllocError>
-    ensures { IfOk result (λ names. names.items ≡ map (λ e. e.name) (shown_files false size slots.now.slots)) }
+/// Appends the names of all files except the redo file. There is room for as many as there are slots.
+fn put_names_in(names: &mut Vec<Name>, size: u16, slots: &SlotTable)
+    requires empty { names.old.items ≡ [] }
+    requires room { length slots.now.slots ≤ vec_capacity names.old }
+    ensures names { names.new.items ≡ map (λ e. e.name) (shown_files false size slots.now.slots) }
+    ensures few { length names.new.items ≤ length slots.now.slots }
 {
-    let mut names = Vec::new(alloc);
     'slots: for place in 0..slots.len() {
-        add_name(&mut names, name_at(size, slots.get(place)))?;
+        add_name(names, name_at(size, slots.get(place)));
     }
-    Ok(names)
 }
 
-/// Returns the names of the files that are to be copied.
+/// Returns how many files are copied at most.
+fn most_copied(asked: &[Name], size: u16) -> usize
+    ensures { result ≡ most_copied size asked.now }
+{
+    if asked.is_empty() {
+        most_slots(size)
+    } else {
+        asked.len()
+    }
+}
+
+/// Appends the names of the files that are to be copied, and returns whether the directory has no more slots than the
+/// medium has room for. There is room for the names.
+fn put_names<V: Volumes>(volumes: &V, asked: &[Name], names: &mut Vec<Name>) -> bool
+    requires valid { (V.seen volumes.now).valid }
+    requires kept { (V.seen volumes.now).mounted.kept ≡ true }
+    requires empty { names.old.items ≡ [] }
+    requires room { most_copied (V.seen volumes.now).mounted.records asked.now ≤ vec_capacity names.old }
+    ensures names { result ≡ true → AreNamesCopied (V.seen volumes.now).mounted.records asked.now
+        (volume_shown (V.seen volumes.now).mounted.tape) names.new.items }
+    ensures exact { result ≡ true → asked.now ≡ [] → AreSlotsExact (volume_shown (V.seen volumes.now).mounted.tape) }
+    ensures few { result ≡ true → length names.new.items ≤ most_copied (V.seen volumes.now).mounted.records asked.now }
+    ensures lacks { result ≡ false → volume_shown (V.seen volumes.now).mounted.tape ≡ None }
+{
+    if !asked.is_empty() {
+        names.extend_from_slice(asked).unwrap();
+        return true;
+    }
+    let size = volumes.size();
+    let Some((_, slots)) = volumes.directory() else {
+        unreachable!()
+    };
+    if !are_few(slots, size) {
+        return false;
+    }
+    put_names_in(names, size, slots);
+    true
+}
+
+/// Returns the names of the files that are to be copied. The error is want of memory; it is also returned if the directory
+/// has more slots than the medium has room for.
 pub(crate) fn names_to_copy<V: Volumes>(
     alloc: Global,
     volumes: &V,
@@ -215,24 +258,37 @@ pub(crate) fn names_to_copy<V: Volumes>(
 ) -> Result<Vec<Name>, AllocError>
     requires valid { (V.seen volumes.now).valid }
     requires kept { (V.seen volumes.now).mounted.kept ≡ true }
-    ensures { IfOk result (λ names. AreNamesCopied (V.seen volumes.now).mounted.records asked.now
+    ensures names { IfOk result (λ names. AreNamesCopied (V.seen volumes.now).mounted.records asked.now
         (volume_shown (V.seen volumes.now).mounted.tape) names.items) }
+    ensures exact { asked.now ≡ []
+        → IfOk result (λ names. AreSlotsExact (volume_shown (V.seen volumes.now).mounted.tape)) }
 {
-    if !asked.is_empty() {
-        return asked.to_vec(alloc);
+    let mut names = Vec::with_capacity(alloc, most_copied(asked, volumes.size()))?;
+    if put_names(volumes, asked, &mut names) {
+        Ok(names)
+    } else {
+        Err(AllocError)
     }
-    let Some((_, slots)) = volumes.directory() else {
-        unreachable!()
-    };
-    names_in(alloc, volumes.size(), slots)
 }
 
-/// Copies files, after the directory was read. The names and the room for the ends are taken first, since a fault may
-/// make the image forget the directory.
+/// Takes the room for the names of this many files, and for what becomes of each.
+fn take_room(alloc: Global, count: usize, ends: &mut Vec<Taken>) -> Result<Vec<Name>, AllocError>
+    requires empty { ends.old.items ≡ [] }
+    ensures empty { ends.new.items ≡ [] }
+    ensures names { IfOk result (λ names. (names.items ≡ []) × (count ≤ vec_capacity names)) }
+    ensures ends { OnOk result (count ≤ vec_capacity ends.new) }
+{
+    let names = Vec::with_capacity(alloc, count)?;
+    *ends = Vec::with_capacity(alloc, count)?;
+    Ok(names)
+}
+
+/// Copies files, after the directory was read. The names are kept, since a fault may make the image forget the
+/// directory. There is room for them.
 fn copy_listed<V: Volumes, F: Folder, P: Sink + Drop>(
-    alloc: Global,
     volumes: &mut V,
     asked: &[Name],
+    mut names: Vec<Name>,
     folder: &mut F,
     page: &mut Page,
     progress: &mut Progress<P>,
@@ -242,7 +298,10 @@ fn copy_listed<V: Volumes, F: Folder, P: Sink + Drop>(
     requires kept { (V.seen volumes.old).mounted.kept ≡ true }
     requires room { HasRoomForName page.old }
     requires closed { (F.view folder.old).part ≡ None }
+    requires none { names.items ≡ [] }
+    requires names { most_copied (V.seen volumes.old).mounted.records asked.now ≤ vec_capacity names }
     requires empty { ends.old.items ≡ [] }
+    requires space { most_copied (V.seen volumes.old).mounted.records asked.now ≤ vec_capacity ends.old }
     ensures valid { (V.seen volumes.new).valid }
     ensures copies { CopyDid result asked.now ends.new.items (V.seen volumes.old).mounted (V.seen volumes.new).mounted
         (F.view folder.old) (F.view folder.new) }
@@ -250,17 +309,14 @@ fn copy_listed<V: Volumes, F: Folder, P: Sink + Drop>(
     ensures beside { GoesOnBeside (StopLeaves Dir (V.seen volumes.old).mounted)
         (V.seen volumes.old) (V.seen volumes.new) }
 {
-    let Ok(names) = names_to_copy(alloc, volumes, asked) else {
+    if !put_names(volumes, asked, &mut names) {
         return Went::OutOfMemory;
-    };
-    let Ok(room) = Vec::with_capacity(alloc, names.len()) else {
-        return Went::OutOfMemory;
-    };
-    *ends = room;
+    }
     copy_files(volumes, &names, folder, page, progress, ends)
 }
 
-/// Copies files of the image into the folder.
+/// Copies files of the image into the folder. All memory is taken before the directory is read, since to read it may
+/// settle or finish the tape.
 fn copy<V: Volumes, F: Folder, P: Sink + Drop>(
     alloc: Global,
     volumes: &mut V,
@@ -281,8 +337,11 @@ fn copy<V: Volumes, F: Folder, P: Sink + Drop>(
     ensures beside { StaysBeside (StopLeaves Dir (V.seen volumes.old).mounted)
         (V.seen volumes.old) (V.seen volumes.new) }
 {
+    let Ok(names) = take_room(alloc, most_copied(asked, volumes.size()), ends) else {
+        return Went::OutOfMemory;
+    };
     match volumes.list() {
-        Reply::Ok => copy_listed(alloc, volumes, asked, folder, page, progress, ends),
+        Reply::Ok => copy_listed(volumes, asked, names, folder, page, progress, ends),
         Reply::No(code) => Went::Refused(code),
         Reply::FaultFrame | Reply::FaultMedium => Went::Fault,
     }
@@ -307,7 +366,7 @@ impl<'a, F: Folder + Drop, P: Sink + Drop> VolumeJob for Copying<'a, F, P> {
     ghost use Rattle.std.specs.Prelude.{◌≡◌, [], None, true};
     ghost use Rattle.lif_model.specs.Apply.{Dir};
     ghost use Rattle.tape_jobs.specs.Out.{HasRoomForName, OutDid, is_before_folder};
-    ghost use Rattle.tape_jobs.specs.Volumes.{StopLeaves};
+    ghost use Rattle.tape_volumes.specs.Volumes.{StopLeaves};
 
     ghost asks = { λ job. HasRoomForName job.page × (job.ends.items ≡ []) × ((F.view job.folder).part ≡ None) };
 

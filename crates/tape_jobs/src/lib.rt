@@ -1,22 +1,19 @@
-//! The jobs of the program `tape`, over an image that is in a drive.
+//! The jobs of the program `tape` that read the volume of an image.
 #![tactic(auto)]
 
 mod collecting;
+mod copy_messages;
 mod copying;
 mod differences;
-mod job;
 mod listing;
 mod progress;
 mod reading;
-mod volumes;
-mod went;
+mod slot_counts;
 
 pub use collecting::{Collected, Collecting};
+pub use copy_messages::write_copied;
 pub use copying::{Copying, FileEnd, Taken};
 pub use differences::difference_text;
-pub use job::VolumeJob;
 pub use listing::{Listing, Style, dir};
 pub use progress::Progress;
 pub use reading::{Part, Reading, page_for_file};
-pub use volumes::{FileRead, Volumes};
-pub use went::Went;

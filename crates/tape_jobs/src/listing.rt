@@ -1,17 +1,19 @@
-ghost use Rattle.std.specs.Prelude.{◌≡◌, true};
+ghost use Rattle.std.specs.Prelude.{◌≡◌, ◌≤◌, ◌*◌, true, length, IfOk};
 ghost use Rattle.lif_model.specs.Apply.{Dir};
-ghost use Rattle.tape_jobs.specs.Dir.{DirDid, WritesListing, WritesText, styled_text, volume_text};
-ghost use Rattle.tape_jobs.specs.Volumes.{StaysBeside, StopLeaves, volume_shown};
+ghost use Rattle.tape_jobs.specs.Dir.{DirDid, HasRoomFor, MayLackMemory, WritesListing, styled_text};
+ghost use Rattle.tape_jobs.specs.Dir.{takes_memory, volume_text};
+ghost use Rattle.tape_volumes.specs.Outputs.{WritesText};
+ghost use Rattle.tape_volumes.specs.Volumes.{StaysBeside, StopLeaves, volume_shown};
+ghost use Rattle.tape_volumes.specs.declared.went.Went.TheVariants as went;
 
-use crate::job::VolumeJob;
-use crate::volumes::Volumes;
-use crate::went::{Went, written};
+use crate::slot_counts::are_few;
 use il_ports::Sink;
 use il_script::Reply;
 use lif_dir::SlotTable;
 use lif_header::Header;
-use std::alloc::Global;
-use tape_text::{csv_rows, free_text, listing, map_text, picture_text};
+use std::alloc::{AllocError, Global};
+use tape_text::{Pages, csv_rows};
+use tape_volumes::{VolumeJob, Volumes, Went, written};
 
 /// Which text is written for a volume.
 #[derive(Clone, Copy, Debug)]
@@ -28,7 +30,19 @@ pub enum Style<'a> {
     Picture,
 }
 
-/// Writes the text for a volume with this header and these slots, on a medium of `size` records.
+/// Takes the pages for a text of a volume on a medium of `size` records. Rows of CSV use none.
+fn pages_for(alloc: Global, style: Style<'_>, size: u16) -> Result<Pages, AllocError>
+    ensures { IfOk result (λ pages. HasRoomFor style.entry size pages) }
+{
+    match style {
+        Style::Columns(heading) => Pages::new(alloc, heading, size),
+        Style::Rows(_) => Pages::new(alloc, None, 0),
+        Style::Free | Style::Map | Style::Picture => Pages::new(alloc, None, size),
+    }
+}
+
+/// Writes the text for a volume with this header and these slots, on a medium of `size` records. Only rows of CSV take
+/// memory.
 fn write_volume<K: Sink>(
     alloc: Global,
     style: Style<'_>,
@@ -36,56 +50,62 @@ fn write_volume<K: Sink>(
     size: u16,
     header: Header,
     slots: &SlotTable,
+    pages: Pages,
     out: &mut K,
 ) -> Went
-    ensures { WritesText result (styled_text style.entry all size header slots.now.slots)
+    requires few { length slots.now.slots ≤ 8 * size }
+    requires room { HasRoomFor style size pages }
+    ensures text { WritesText result (styled_text style.entry all size header slots.now.slots)
         (K.written out.old) (K.written out.new) (K.faults out.old) (K.faults out.new) }
+    ensures memory { result ≡ went.OutOfMemory → takes_memory style.entry ≡ true }
 {
     match style {
-        Style::Columns(heading) => match listing(alloc, heading, all, size, &header, slots) {
-            Ok(page) => written(out, page.text()),
-            Err(_) => Went::OutOfMemory,
-        },
+        Style::Columns(heading) => {
+            written(
+                out,
+                pages.listing(heading, all, size, &header, slots).text(),
+            )
+        }
         Style::Rows(image) => match csv_rows(alloc, image.as_bytes(), all, size, &header, slots) {
             Ok(rows) => written(out, rows.as_slice()),
             Err(_) => Went::OutOfMemory,
         },
-        Style::Free => match free_text(alloc, size, &header, slots) {
-            Ok(page) => written(out, page.text()),
-            Err(_) => Went::OutOfMemory,
-        },
-        Style::Map => match map_text(alloc, size, &header, slots) {
-            Ok(page) => written(out, page.text()),
-            Err(_) => Went::OutOfMemory,
-        },
-        Style::Picture => match picture_text(alloc, size, &header, slots) {
-            Ok(page) => written(out, page.text()),
-            Err(_) => Went::OutOfMemory,
-        },
+        Style::Free => written(out, pages.free_text(size, &header, slots).text()),
+        Style::Map => written(out, pages.map_text(size, &header, slots).text()),
+        Style::Picture => written(out, pages.picture_text(size, &header, slots).text()),
     }
 }
 
-/// Writes the text for the directory that is kept in memory.
+/// Writes the text for the directory that is kept in memory. A directory has at most eight slots for each record of the
+/// medium, and the pages have room for these.
 fn write_listing<V: Volumes, K: Sink>(
     alloc: Global,
     volumes: &V,
     style: Style<'_>,
     all: bool,
+    pages: Pages,
     out: &mut K,
 ) -> Went
     requires valid { (V.seen volumes.now).valid }
     requires kept { (V.seen volumes.now).mounted.kept ≡ true }
-    ensures { WritesListing result (volume_text style.entry all (V.seen volumes.now).mounted.records)
+    requires room { HasRoomFor style (V.seen volumes.now).mounted.records pages }
+    ensures { WritesListing (MayLackMemory style.entry (V.seen volumes.now).mounted.tape) result
+        (volume_text style.entry all (V.seen volumes.now).mounted.records)
         (volume_shown (V.seen volumes.now).mounted.tape)
         (K.written out.old) (K.written out.new) (K.faults out.old) (K.faults out.new) }
 {
+    let size = volumes.size();
     let Some((header, slots)) = volumes.directory() else {
         unreachable!()
     };
-    write_volume(alloc, style, all, volumes.size(), header, slots, out)
+    if !are_few(slots, size) {
+        return Went::OutOfMemory;
+    }
+    write_volume(alloc, style, all, size, header, slots, pages, out)
 }
 
-/// Writes a text for one image.
+/// Writes a text for one image. All memory is taken before the directory is read, since to read it may settle or finish
+/// the tape; only rows of CSV take memory later.
 pub fn dir<V: Volumes, K: Sink>(
     alloc: Global,
     volumes: &mut V,
@@ -100,8 +120,11 @@ pub fn dir<V: Volumes, K: Sink>(
     ensures beside { StaysBeside (StopLeaves Dir (V.seen volumes.old).mounted)
         (V.seen volumes.old) (V.seen volumes.new) }
 {
+    let Ok(pages) = pages_for(alloc, style, volumes.size()) else {
+        return Went::OutOfMemory;
+    };
     match volumes.list() {
-        Reply::Ok => write_listing(alloc, volumes, style, all, out),
+        Reply::Ok => write_listing(alloc, volumes, style, all, pages, out),
         Reply::No(code) => Went::Refused(code),
         Reply::FaultFrame | Reply::FaultMedium => Went::Fault,
     }
@@ -121,7 +144,7 @@ pub struct Listing<'a, K: Drop> {
 impl<'a, K: Sink + Drop> VolumeJob for Listing<'a, K> {
     ghost use Rattle.lif_model.specs.Apply.{Dir};
     ghost use Rattle.tape_jobs.specs.Dir.{DirDid};
-    ghost use Rattle.tape_jobs.specs.Volumes.{StopLeaves};
+    ghost use Rattle.tape_volumes.specs.Volumes.{StopLeaves};
 
     ghost asks = { λ job. Unit {0} };
 

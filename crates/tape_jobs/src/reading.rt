@@ -3,17 +3,15 @@ ghost use Rattle.lif_model.specs.Apply.{Fetch};
 ghost use Rattle.lif_model.specs.Shelf.{largest_image};
 ghost use Rattle.lif_dir.specs.Entries.{name_bytes};
 ghost use Rattle.tape_jobs.specs.Reading.{HasRoomForFile, ReadDid, WritesFilePart, part_told, size_of};
-ghost use Rattle.tape_jobs.specs.Volumes.{StaysBeside, StopLeaves, content_in};
+ghost use Rattle.tape_volumes.specs.Volumes.{StaysBeside, StopLeaves, content_in};
 
-use crate::job::VolumeJob;
-use crate::volumes::{FileRead, Volumes};
-use crate::went::{Went, written};
 use il_ports::Sink;
 use il_script::{Code, Page, Reply};
 use lif_dir::Name;
 use std::alloc::{AllocError, Global};
 use tape_names::bytes_told;
 use tape_text::{put_text, text_size};
+use tape_volumes::{FileRead, VolumeJob, Volumes, Went, written};
 
 /// The type of a text file.
 const TEXT_TYPE: u16 = 1;
@@ -133,7 +131,7 @@ impl<'a, K: Sink + Drop> VolumeJob for Reading<'a, K> {
     ghost use Rattle.lif_model.specs.Apply.{Fetch};
     ghost use Rattle.lif_dir.specs.Entries.{name_bytes};
     ghost use Rattle.tape_jobs.specs.Reading.{HasRoomForFile, ReadDid};
-    ghost use Rattle.tape_jobs.specs.Volumes.{StopLeaves};
+    ghost use Rattle.tape_volumes.specs.Volumes.{StopLeaves};
 
     ghost asks = { λ job. HasRoomForFile job.page };
 

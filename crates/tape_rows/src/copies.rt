@@ -11,7 +11,8 @@ use std::io::ErrorKind;
 use std::process::Abort;
 use std::test::Fail;
 use tape_folder::{Folder, Kept, MemoryFolder};
-use tape_jobs::{Copying, FileEnd, Progress, Taken, VolumeJob, Went};
+use tape_jobs::{Copying, FileEnd, Progress, Taken};
+use tape_volumes::{VolumeJob, Went};
 
 /// The host names of the two files of the volume.
 const STARTUP: &str = "STARTUP.E214.12060000";

@@ -7,7 +7,8 @@ use lif_dir::Name;
 use std::alloc::{AllocError, Global};
 use std::process::Abort;
 use std::test::Fail;
-use tape_jobs::{Collected, Collecting, VolumeJob, Went, difference_text};
+use tape_jobs::{Collected, Collecting, difference_text};
+use tape_volumes::{VolumeJob, Went};
 
 /// A file as a test gives it: its name, type, field, and bytes.
 type Row = (&'static str, u16, [u8; 4], &'static [u8]);

@@ -9,7 +9,8 @@ use lif_dir::{Name, SlotTable};
 use lif_header::Header;
 use std::process::Abort;
 use std::test::Fail;
-use tape_jobs::{FileRead, Part, Reading, VolumeJob, Volumes, Went, page_for_file};
+use tape_jobs::{Part, Reading, page_for_file};
+use tape_volumes::{Change, FileRead, VolumeJob, Volumes, Went};
 
 /// A volume whose files have this type, this field and these bytes.
 #[derive(Drop)]
@@ -22,6 +23,8 @@ struct OneFile {
 }
 
 impl Volumes for OneFile {
+    ghost use Rattle.std.proofs.Common.{rules};
+
     ghost seen = { λ v. ⟦<Given as Volumes>⟧.seen v.given };
 
     ghost file = { λ v. record { kind = v.kind; field = v.field; bytes = v.bytes.items } };
@@ -32,6 +35,10 @@ impl Volumes for OneFile {
 
     fn fetch(&mut self, name: &Name) -> Reply {
         self.given.fetch(name)
+    }
+
+    fn change(&mut self, change: &Change<'_>) -> Reply {
+        self.given.change(change)
     }
 
     fn file(&self) -> FileRead<'_> {
@@ -50,6 +57,8 @@ impl Volumes for OneFile {
     fn directory(&self) -> Option<(Header, &SlotTable)> {
         self.given.directory()
     }
+
+    ghost is_mounted = { λ v valid. Prim.search rules };
 }
 
 /// A file as a test gives it: its type, its field, and its bytes.

@@ -7,7 +7,7 @@ use lif_dir::{FileEntry, Name, Slot, SlotTable};
 use lif_header::Header;
 use std::process::Abort;
 use std::test::Fail;
-use tape_jobs::{FileRead, Volumes};
+use tape_volumes::{Change, FileRead, Volumes};
 
 /// The bytes of each file.
 pub(crate) const CONTENT: &[u8] = b"the bytes of a file";
@@ -31,6 +31,10 @@ pub(crate) struct Given {
     answer: Answer,
     /// The name of a file that cannot be read, since the medium fails.
     pub(crate) faulty: Option<Name>,
+    /// How many changes were asked for.
+    changes: u64,
+    /// The change of this number, counted from 1, is answered so.
+    pub(crate) other: Option<(u64, Answer)>,
     is_listed: bool,
     faults: u64,
     /// The type and the field of the file that was read last.
@@ -69,9 +73,18 @@ impl Given {
             self.find(name)
         }
     }
+
+    /// How the change that was asked for last is answered.
+    fn next_answer(&self) -> Answer {
+        match self.other {
+            Some((number, answer)) if number == self.changes => answer,
+            _ => self.answer,
+        }
+    }
 }
 
 impl Volumes for Given {
+    ghost use Rattle.std.proofs.Common.{rules};
     ghost use Rattle.std.specs.Prelude.{None, codes};
 
     ghost seen = { λ v. record {
@@ -97,6 +110,15 @@ impl Volumes for Given {
                 Reply::FaultMedium
             }
         }
+    }
+
+    fn change(&mut self, _: &Change<'_>) -> Reply {
+        self.changes = self.changes.saturating_add(1);
+        let usual = self.answer;
+        self.answer = self.next_answer();
+        let reply = self.list();
+        self.answer = usual;
+        reply
     }
 
     fn fetch(&mut self, name: &Name) -> Reply {
@@ -134,6 +156,8 @@ impl Volumes for Given {
             None
         }
     }
+
+    ghost is_mounted = { λ v valid. Prim.search rules };
 }
 
 /// A file as a test gives it: its name, type, first record, number of records, and field.
@@ -177,6 +201,8 @@ pub(crate) fn volume(rt: &(impl Abort + AllocGlobal), answer: Answer) -> Result<
         slots,
         answer,
         faulty: None,
+        changes: 0,
+        other: None,
         is_listed: false,
         faults: 0,
         kind: 0,

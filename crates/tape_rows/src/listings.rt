@@ -5,7 +5,8 @@ use il_same::same_bytes;
 use il_script::Code;
 use std::process::Abort;
 use std::test::Fail;
-use tape_jobs::{Style, Went, dir};
+use tape_jobs::{Style, dir};
+use tape_volumes::Went;
 
 const COLUMNS: &str = "\
 TAPE:
@@ -18,6 +19,26 @@ const ROWS: &str = "\
 A TAPE,HP71,STARTUP,E214,BASIC,4,4,777,1985-11-23 14:30,12060000
 A TAPE,HP71,\"A,B\",E0D0,SDATA,10,4,1024,1985-11-23 14:30,00800000
 A TAPE,HP71,REDOFILE,E0D0,SDATA,508,4,-,1985-11-23 14:30,00000000
+";
+
+const FREE: &str = "\
+volume HP71, 2 files, 1 purged, 12 slots free, 496 records free
+the largest file that can be added: 494 records, 126464 bytes
+";
+
+const MAP: &str = "\
+volume HP71, 2 files, 1 purged, 12 slots free, 496 records free
+   0  H-DDaaaa..bbbb..................................................
+  64  ................................................................
+ 128  ................................................................
+ 192  ................................................................
+ 256  ................................................................
+ 320  ................................................................
+ 384  ................................................................
+ 448  ............................................................RRRR
+a  STARTUP  4 records from 4
+b  A,B      4 records from 10
+H header, D directory, R redo file, - unused, . free
 ";
 
 /// Lists the volume, and compares how the job went and what was written.
@@ -61,6 +82,14 @@ fn a_volume_is_listed_as_rows(rt: HostRuntime) -> Result<(), Fail> {
         Went::Done,
         ROWS,
     )
+}
+
+#[test]
+fn what_is_free_and_the_map_are_written(rt: HostRuntime) -> Result<(), Fail> {
+    for (style, text) in [(Style::Free, FREE), (Style::Map, MAP)] {
+        lists(&rt, Answer::Listed, style, false, 1000, Went::Done, text)?;
+    }
+    Ok(())
 }
 
 #[test]

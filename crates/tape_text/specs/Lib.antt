@@ -5,3 +5,4 @@ pub mod Texts
 pub mod Free
 pub mod Map
 pub mod Picture
+pub mod Pages

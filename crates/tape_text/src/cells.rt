@@ -12,7 +12,7 @@ use lif_header::Header;
 use tape_names::{bytes_told, type_name};
 
 /// The most bytes that an entry of a column can have.
-pub const WIDEST: usize = 40;
+pub(crate) const WIDEST: usize = 40;
 
 /// Makes the cell of the name.
 pub(crate) fn name(cell: &mut Page, entry: &FileEntry)

@@ -1,5 +1,5 @@
 //! Which files can be added to a volume: the text that `free` prints.
-ghost use Rattle.std.specs.Prelude.{◌≡◌, ◌≤◌, ◌<◌, ◌+◌, ◌++◌, length, map, IfOk};
+ghost use Rattle.std.specs.Prelude.{◌≡◌, ◌≤◌, ◌<◌, ◌+◌, ◌++◌, length, map};
 ghost use Rattle.lif_model.specs.Volume.{is_adopted};
 ghost use Rattle.lif_dir.specs.Entries.{slot_bytes};
 ghost use Rattle.lif_plan.specs.Choices.{place_of};
@@ -10,7 +10,6 @@ use il_script::Page;
 use lif_dir::SlotTable;
 use lif_header::Header;
 use lif_plan::{Choice, choose, is_redo_file};
-use std::alloc::{AllocError, Global};
 
 /// The most bytes that the text can have.
 const FREE_ROOM: usize = 220;
@@ -98,18 +97,12 @@ fn put_addition(page: &mut Page, size: u16, header: &Header, slots: &SlotTable)
     }
 }
 
-/// Returns the text of what is free of a volume on a medium of `size` records: the volume's line, and a line that says
-/// which file can be added. The only error is want of memory.
-pub fn free_text(
-    alloc: Global,
-    size: u16,
-    header: &Header,
-    slots: &SlotTable,
-) -> Result<Page, AllocError>
-    ensures { IfOk result (λ page. page.text ≡ free_text size header.now slots.now.slots) }
+/// Appends the text of what is free of a volume on a medium of `size` records: the volume's line, and a line that says
+/// which file can be added.
+pub(crate) fn put_free_text(page: &mut Page, size: u16, header: &Header, slots: &SlotTable)
+    requires { length page.old.text + FREE_ROOM ≤ page.old.room }
+    ensures { page.new ≡ record page.old { text = page.old.text ++ free_text size header.now slots.now.slots } }
 {
-    let mut page = Page::new(alloc, FREE_ROOM)?;
-    put_volume(&mut page, size, header, slots);
-    put_addition(&mut page, size, header, slots);
-    Ok(page)
+    put_volume(page, size, header, slots);
+    put_addition(page, size, header, slots);
 }

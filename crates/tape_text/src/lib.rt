@@ -9,16 +9,13 @@ mod free;
 mod holders;
 mod lines;
 mod map;
+mod pages;
 mod picture;
 mod shown;
 mod table;
 mod texts;
 mod volume;
 
-pub use cells::WIDEST;
-pub use free::free_text;
-pub use lines::{LINE, listing, put_listing};
-pub use map::map_text;
-pub use picture::picture_text;
+pub use pages::Pages;
 pub use table::{csv_rows, first_csv_row};
 pub use texts::{put_text, text_size};

@@ -1,5 +1,5 @@
 //! The text of a volume: its line, and the lines of its files.
-ghost use Rattle.std.specs.Prelude.{◌≡◌, ◌≤◌, ◌<◌, ◌+◌, ◌*◌, ◌^◌, ◌++◌, length, option_map, IfOk};
+ghost use Rattle.std.specs.Prelude.{◌≡◌, ◌≤◌, ◌<◌, ◌+◌, ◌*◌, ◌^◌, ◌++◌, length, option_map};
 ghost use Rattle.std.specs.List.{flat_map};
 ghost use Rattle.tape_text.specs.Listing.{names_of, sizes_of, rest_of, listed_line, heading_of, shown_slot, listing_of};
 ghost use Rattle.tape_text.specs.Columns.{AreNarrow};
@@ -11,10 +11,9 @@ use crate::volume::put_volume;
 use il_script::Page;
 use lif_dir::{FileEntry, Slot, SlotTable};
 use lif_header::Header;
-use std::alloc::{AllocError, Global};
 
 /// The most bytes that a line can have.
-pub const LINE: usize = 240;
+const LINE: usize = 240;
 
 /// Appends the name and the type of a file.
 #[tactic(auto, unfolding(crate::specs::Listing::names_of))]
@@ -101,7 +100,7 @@ fn put_slot(page: &mut Page, cell: &mut Page, widths: Widths, all: bool, size: u
 
 /// Appends the text of a volume on a medium of `size` records: its line, and a line for each file, also for the redo
 /// file if `all` is set. Each cell is made in `cell`, which has room for `WIDEST` bytes.
-pub fn put_listing(
+pub(crate) fn put_listing(
     page: &mut Page,
     cell: &mut Page,
     all: bool,
@@ -123,7 +122,7 @@ pub fn put_listing(
 }
 
 /// The number of bytes of a heading.
-fn heading_size(heading: Option<&str>) -> usize
+pub(crate) fn heading_size(heading: Option<&str>) -> usize
     ensures size { result ≡ length (heading_of (option_map (λ name. name.now) heading.entry)) }
     ensures bound { result < 2 ^ 63 + 2 }
 {
@@ -134,7 +133,7 @@ fn heading_size(heading: Option<&str>) -> usize
 }
 
 /// Appends the name of an image as a line, if it has a heading.
-fn put_heading(page: &mut Page, heading: Option<&str>)
+pub(crate) fn put_heading(page: &mut Page, heading: Option<&str>)
     requires room { length page.old.text + length (heading_of (option_map (λ name. name.now) heading)) ≤ page.old.room }
     ensures { page.new
         ≡ record page.old { text = page.old.text ++ heading_of (option_map (λ name. name.now) heading.entry) } }
@@ -143,24 +142,4 @@ fn put_heading(page: &mut Page, heading: Option<&str>)
         page.put(name.as_bytes());
         page.put(b":\n");
     }
-}
-
-/// Returns the text of a volume on a medium of `size` records: the name of its image if it has a heading, the volume's
-/// line, and a line for each file, also for the redo file if `all` is set. The only error is want of memory.
-pub fn listing(
-    alloc: Global,
-    heading: Option<&str>,
-    all: bool,
-    size: u16,
-    header: &Header,
-    slots: &SlotTable,
-) -> Result<Page, AllocError>
-    ensures { IfOk result (λ page. page.text ≡
-        heading_of (option_map (λ name. name.now) heading.entry) ++ listing_of all size header.now slots.now.slots) }
-{
-    let mut page = Page::new(alloc, heading_size(heading) + LINE * (slots.len() + 1))?;
-    let mut cell = Page::new(alloc, WIDEST)?;
-    put_heading(&mut page, heading);
-    put_listing(&mut page, &mut cell, all, size, header, slots);
-    Ok(page)
 }

@@ -1,5 +1,5 @@
 //! The records of a medium as characters, 64 in a row: the text that `map` prints.
-ghost use Rattle.std.specs.Prelude.{◌≡◌, ◌≤◌, ◌<◌, ◌+◌, ◌*◌, ◌++◌, ◌∷◌, [], Bool, length, codes, IfOk};
+ghost use Rattle.std.specs.Prelude.{◌≡◌, ◌≤◌, ◌<◌, ◌+◌, ◌*◌, ◌++◌, ◌∷◌, [], Bool, length, codes};
 ghost use Rattle.tape_text.specs.Columns.{AreNarrow};
 ghost use Rattle.tape_text.specs.Listing.{shown_slot, shown_files, widths_of};
 ghost use Rattle.tape_text.specs.Map.{letter_of, sign_of, row_start, row_end, for_records, record_sign};
@@ -13,7 +13,6 @@ use crate::volume::put_volume;
 use il_script::Page;
 use lif_dir::{FileEntry, Slot, SlotTable};
 use lif_header::Header;
-use std::alloc::{AllocError, Global};
 
 /// The most bytes that a record takes in the map, with the start and the end of its row.
 const SIGN: usize = 44;
@@ -196,24 +195,22 @@ fn put_legend(page: &mut Page, cell: &mut Page, size: u16, slots: &SlotTable)
     }
 }
 
-/// Returns the map of a medium of `size` records: the volume's line, a character for each record, a line for each file
-/// without the redo file, and what the other characters mean. The only error is want of memory.
-pub fn map_text(
-    alloc: Global,
+/// Appends the map of a medium of `size` records: the volume's line, a character for each record, a line for each file
+/// without the redo file, and what the other characters mean.
+pub(crate) fn put_map(
+    page: &mut Page,
+    cell: &mut Page,
     size: u16,
     header: &Header,
     slots: &SlotTable,
-) -> Result<Page, AllocError>
-    ensures { IfOk result (λ page. page.text ≡ map_text size header.now slots.now.slots) }
+)
+    requires cell { cell.old.room ≡ WIDEST }
+    requires room { length page.old.text + FIRST_AND_LAST + SIGN * size + LEGEND * length slots.now.slots
+        ≤ page.old.room }
+    ensures { page.new ≡ record page.old { text = page.old.text ++ map_text size header.now slots.now.slots } }
 {
-    let mut page = Page::new(
-        alloc,
-        FIRST_AND_LAST + SIGN * usize::from(size) + LEGEND * slots.len(),
-    )?;
-    let mut cell = Page::new(alloc, WIDEST)?;
-    put_volume(&mut page, size, header, slots);
-    put_signs(&mut page, &mut cell, size, header, slots);
-    put_legend(&mut page, &mut cell, size, slots);
+    put_volume(page, size, header, slots);
+    put_signs(page, cell, size, header, slots);
+    put_legend(page, cell, size, slots);
     page.put(b"H header, D directory, R redo file, - unused, . free\n");
-    Ok(page)
 }

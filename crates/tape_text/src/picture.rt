@@ -1,5 +1,5 @@
 //! The records of a medium as squares of an SVG file: the text that `map --svg` prints.
-ghost use Rattle.std.specs.Prelude.{◌≡◌, ◌≤◌, ◌<◌, ◌+◌, ◌*◌, ◌%◌, ◌++◌, length, decimal, IfOk};
+ghost use Rattle.std.specs.Prelude.{◌≡◌, ◌≤◌, ◌<◌, ◌+◌, ◌*◌, ◌%◌, ◌++◌, length, decimal, []};
 ghost use Rattle.tape_text.specs.Map.{for_records};
 ghost use Rattle.tape_text.specs.Picture.{xml_byte, xml_text, file_color, color_of, holder_text, square_place};
 ghost use Rattle.tape_text.specs.Picture.{square_content, record_square, svg_start, svg_title, picture_text};
@@ -10,13 +10,12 @@ use crate::volume::put_volume;
 use il_script::Page;
 use lif_dir::SlotTable;
 use lif_header::Header;
-use std::alloc::{AllocError, Global};
 
 /// The most bytes that the square of a record takes.
 const SQUARE: usize = 200;
 
 /// The most bytes that the line of a volume has.
-const TITLE: usize = 120;
+pub(crate) const TITLE: usize = 120;
 
 /// The most bytes that the other lines take: the first line, the title, and the last line.
 const AROUND: usize = 820;
@@ -206,23 +205,24 @@ fn put_title(page: &mut Page, title: &[u8])
     page.put(b"</title>\n");
 }
 
-/// Returns the picture of a medium of `size` records as an SVG file: a square for each record, in rows of 64, with its
-/// number and what it belongs to as its title. The only error is want of memory.
-pub fn picture_text(
-    alloc: Global,
+/// Appends the picture of a medium of `size` records as an SVG file: a square for each record, in rows of 64, with its
+/// number and what it belongs to as its title. The title of the picture is made in `title`.
+pub(crate) fn put_picture(
+    page: &mut Page,
+    cell: &mut Page,
+    title: &mut Page,
     size: u16,
     header: &Header,
     slots: &SlotTable,
-) -> Result<Page, AllocError>
-    ensures { IfOk result (λ page. page.text ≡ picture_text size header.now slots.now.slots) }
+)
+    requires cell { cell.old.room ≡ WIDEST }
+    requires title { title.old ≡ record { text = []; room = TITLE } }
+    requires room { length page.old.text + AROUND + SQUARE * size ≤ page.old.room }
+    ensures { page.new ≡ record page.old { text = page.old.text ++ picture_text size header.now slots.now.slots } }
 {
-    let mut line = Page::new(alloc, TITLE)?;
-    put_volume(&mut line, size, header, slots);
-    let mut page = Page::new(alloc, AROUND + SQUARE * usize::from(size))?;
-    let mut cell = Page::new(alloc, WIDEST)?;
-    put_start(&mut page, u32::from(size));
-    put_title(&mut page, line.text());
-    put_squares(&mut page, &mut cell, size, header, slots);
+    put_volume(title, size, header, slots);
+    put_start(page, u32::from(size));
+    put_title(page, title.text());
+    put_squares(page, cell, size, header, slots);
     page.put(b"</svg>\n");
-    Ok(page)
 }

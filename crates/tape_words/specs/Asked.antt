@@ -1,5 +1,5 @@
 -- What the arguments ask for.
-use Rattle.std.specs.Prelude.{Bool, List, [], ◌∷◌, map, Option, Some, None, codes, option_map, option_and_then, unwrap_or, if◌then◌else◌, Result, Ok, Err, String}
+use Rattle.std.specs.Prelude.{Bool, true, false, List, [], ◌∷◌, map, Option, Some, None, codes, option_map, option_and_then, unwrap_or, if◌then◌else◌, Result, Ok, Err, String}
 use Rattle.std.specs.declared.alloc.AllocError.{AllocError}
 use Rattle.std.specs.declared.alloc.Global.{Global}
 use Rattle.std.specs.Str.{bytes_eq}
@@ -31,9 +31,27 @@ pub data Wanted : Type 0 where
   Why : (image : Text) → Wanted
   -- how the files of the two images differ
   Diff : (image other : Text) → Wanted
+  -- the files of these names purged
+  Purge : (image : Text) (names : List Text) → Wanted
+  -- a file renamed
+  Rename : (image old new : Text) → Wanted
+  -- a redo file on the volume of another program
+  Adopt : (image : Text) → Wanted
+  -- a redo file of version 2
+  Upgrade : (image : Text) → Wanted
   -- an explanation of one job, or of the program
   Help : (topic : Option Topic) → Wanted
   Version : Wanted
+
+-- the job of this name, if it changes an image; or that of help
+abbrev pub changing_topic : Text → Option Topic
+changing_topic name =
+    if bytes_eq name (codes "purge") then Some topic.Purge
+    else if bytes_eq name (codes "rename") then Some topic.Rename
+    else if bytes_eq name (codes "adopt") then Some topic.Adopt
+    else if bytes_eq name (codes "upgrade") then Some topic.Upgrade
+    else if bytes_eq name (codes "help") then Some topic.Help
+    else None
 
 -- the job of this name
 abbrev pub topic_in : Text → Option Topic
@@ -46,8 +64,7 @@ topic_in name =
     else if bytes_eq name (codes "map") then Some topic.Map
     else if bytes_eq name (codes "why") then Some topic.Why
     else if bytes_eq name (codes "diff") then Some topic.Diff
-    else if bytes_eq name (codes "help") then Some topic.Help
-    else None
+    else changing_topic name
 
 -- help for the program, or for the job that is named; a name of no job is refused
 abbrev pub help_in : Option Text → Option Wanted
@@ -58,6 +75,11 @@ help_in (Some name) = option_map (λ t. Help (Some t)) (topic_in name)
 abbrev pub pair_in : Text → Text → List Row → Option (Text × Text)
 pair_in first second rows =
     option_and_then (λ a. option_map (λ b. (a, b)) (first_of second rows)) (first_of first rows)
+
+-- three arguments of one value each, if all are given
+abbrev pub triple_in : Text → Text → Text → List Row → Option (Text × Text × Text)
+triple_in first second third rows =
+    option_and_then (λ p. option_map (λ c. (p.0, p.1, c)) (first_of third rows)) (pair_in first second rows)
 
 -- what the job is asked with its own arguments; a job is refused without those that it needs
 abbrev pub asked_for : Topic → List Row → Option Wanted
@@ -71,7 +93,22 @@ asked_for topic.Free rows = option_map Free (first_of (codes "image") rows)
 asked_for topic.Map rows = option_map (Map (is_switched_on (codes "svg") rows)) (first_of (codes "image") rows)
 asked_for topic.Why rows = option_map Why (first_of (codes "image") rows)
 asked_for topic.Diff rows = option_map (λ p. Diff p.0 p.1) (pair_in (codes "image") (codes "other") rows)
+asked_for topic.Purge rows =
+    option_and_then (λ i. option_map (Purge i) (all_of (codes "names") rows)) (first_of (codes "image") rows)
+asked_for topic.Rename rows =
+    option_map (λ t. Rename t.0 t.1 t.2) (triple_in (codes "image") (codes "old") (codes "new") rows)
+asked_for topic.Adopt rows = option_map Adopt (first_of (codes "image") rows)
+asked_for topic.Upgrade rows = option_map Upgrade (first_of (codes "image") rows)
 asked_for topic.Help rows = help_in (first_of (codes "job") rows)
+
+-- a job that changes an image, or help
+abbrev pub changes_or_helps : Topic → Bool
+changes_or_helps topic.Purge = true
+changes_or_helps topic.Rename = true
+changes_or_helps topic.Adopt = true
+changes_or_helps topic.Upgrade = true
+changes_or_helps topic.Help = true
+changes_or_helps t = false
 
 -- the job of this name; its `--help` goes before its other arguments
 abbrev pub asked_as : Text → List Row → Option Wanted
@@ -107,6 +144,10 @@ job_asked (job.Free image) = Free image.now
 job_asked (job.Map svg image) = Map svg image.now
 job_asked (job.Why image) = Why image.now
 job_asked (job.Diff image other) = Diff image.now other.now
+job_asked (job.Purge image names) = Purge image.now (map (λ s. s.now) names.now)
+job_asked (job.Rename image old new) = Rename image.now old.now new.now
+job_asked (job.Adopt image) = Adopt image.now
+job_asked (job.Upgrade image) = Upgrade image.now
 job_asked (job.Help topic) = Help topic
 job_asked job.Version = Version
 

@@ -57,6 +57,16 @@ abbrev pub diff_app : App
 diff_app = with_rule (with_rule (with_rule (plain_app (codes "diff")) (one_rule (codes "image"))) (one_rule (codes "other")))
     (switch_rule (codes "help"))
 
+-- `purge [--help] IMAGE NAME..`
+abbrev pub purge_app : App
+purge_app = with_rule (with_rule (with_rule (plain_app (codes "purge")) (one_rule (codes "image"))) (several_rule (codes "names")))
+    (switch_rule (codes "help"))
+
+-- `rename [--help] IMAGE OLD NEW`
+abbrev pub rename_app : App
+rename_app = with_rule (with_rule (with_rule (with_rule (plain_app (codes "rename")) (one_rule (codes "image"))) (one_rule (codes "old")))
+    (one_rule (codes "new"))) (switch_rule (codes "help"))
+
 -- `help [--help] [JOB]`
 abbrev pub help_app : App
 help_app = with_rule (with_rule (plain_app (codes "help")) (one_rule (codes "job"))) (switch_rule (codes "help"))
@@ -70,6 +80,10 @@ app_for topic.Free = image_app (codes "free")
 app_for topic.Map = map_app
 app_for topic.Why = image_app (codes "why")
 app_for topic.Diff = diff_app
+app_for topic.Purge = purge_app
+app_for topic.Rename = rename_app
+app_for topic.Adopt = image_app (codes "adopt")
+app_for topic.Upgrade = image_app (codes "upgrade")
 app_for topic.Help = help_app
 
 -- the command of the program, whose arguments do not begin with its name
@@ -80,14 +94,23 @@ top_app = let a : App = plain_app (codes "tape") in record a { top = record (a.t
 abbrev pub program_app : App
 program_app = with_rule (with_rule top_app (switch_rule (codes "help"))) (switch_rule (codes "version"))
 
--- the command with the jobs that read files, and with those that tell of images too
+-- the command with the jobs that read files
 abbrev pub reading_app : App
 reading_app = with_subcommand (with_subcommand (with_subcommand (with_subcommand program_app
     (app_for topic.Dir).top) (app_for topic.Out).top) (app_for topic.Get).top) (app_for topic.Raw).top
 
+-- and with those that tell of images
+abbrev pub telling_app : App
+telling_app = with_subcommand (with_subcommand (with_subcommand (with_subcommand reading_app
+    (app_for topic.Free).top) (app_for topic.Map).top) (app_for topic.Why).top) (app_for topic.Diff).top
+
+-- and with those that change images
+abbrev pub changing_app : App
+changing_app = with_subcommand (with_subcommand (with_subcommand (with_subcommand telling_app
+    (app_for topic.Purge).top) (app_for topic.Rename).top) (app_for topic.Adopt).top) (app_for topic.Upgrade).top
+
 unfoldable pub tape_app : App
-tape_app = with_subcommand (with_subcommand (with_subcommand (with_subcommand (with_subcommand reading_app
-    (app_for topic.Free).top) (app_for topic.Map).top) (app_for topic.Why).top) (app_for topic.Diff).top) (app_for topic.Help).top
+tape_app = with_subcommand changing_app (app_for topic.Help).top
 
 -- what a page of help explains: one job, or the program
 abbrev pub page_app : Option Topic → App

@@ -1,10 +1,10 @@
-ghost use Rattle.std.specs.Prelude.{◌≡◌, ◌≢◌, IfOk, IfErr, None, [], map, option_map, unwrap_or};
+ghost use Rattle.std.specs.Prelude.{◌≡◌, ◌≢◌, true, IfOk, IfErr, None, [], map, option_map, unwrap_or};
 ghost use Rattle.std.specs.String.{string_bytes};
 ghost use Rattle.clap.specs.Words.{found_of, rows_of, first_of, all_of, subcommand_rows_of};
 ghost use Rattle.clap.specs.declared.error.kind.ErrorKind.TheVariants as kinds;
 ghost use Rattle.tape_words.specs.Simple.{is_switched_on};
 ghost use Rattle.tape_words.specs.Asked.{IfRefused, arguments_in, job_asked, job_found_in, told_by};
-ghost use Rattle.tape_words.specs.Asked.{asked_as, asked_for, help_in, pair_in};
+ghost use Rattle.tape_words.specs.Asked.{asked_as, asked_for, changes_or_helps, help_in, pair_in, triple_in};
 
 use crate::jobs::{Job, Topic, topic_of};
 use crate::rules::command;
@@ -100,6 +100,21 @@ fn pair<'a>(matches: &ArgMatches<'a>, first: &str, second: &str) -> Option<(&'a 
     Some((first, second))
 }
 
+/// The values of three arguments, if all are given.
+fn triple<'a>(
+    matches: &ArgMatches<'a>,
+    first: &str,
+    second: &str,
+    third: &str,
+) -> Option<(&'a str, &'a str, &'a str)>
+    ensures { option_map (λ t. (t.0.now, t.1.now, t.2.now)) result
+        ≡ triple_in first.now second.now third.now (rows_of (found_of matches.now)) }
+{
+    let (first, second) = pair(matches, first, second)?;
+    let third = value(matches, third)?;
+    Some((first, second, third))
+}
+
 /// Help for the program, or for the job that is named.
 fn help_for<'r>(name: Option<&str>) -> Option<Job<'r>>
     ensures { option_map job_asked result ≡ help_in (option_map (λ text. text.now) name.entry) }
@@ -109,6 +124,33 @@ fn help_for<'r>(name: Option<&str>) -> Option<Job<'r>>
         None => None,
     };
     Some(Job::Help { topic })
+}
+
+/// The job that changes an image, with the arguments that were found for it; or that of help.
+fn changing_job<'r, 'a>(topic: Topic, found: &'r ArgMatches<'a>) -> Option<Job<'r>>
+    requires { changes_or_helps topic ≡ true }
+    ensures { option_map job_asked result ≡ asked_for topic (rows_of (found_of found.now)) }
+{
+    match topic {
+        Topic::Purge => {
+            let image = value(found, "image")?;
+            let names = values(found, "names")?;
+            Some(Job::Purge { image, names })
+        }
+        Topic::Rename => {
+            let (image, old, new) = triple(found, "image", "old", "new")?;
+            Some(Job::Rename { image, old, new })
+        }
+        Topic::Adopt => {
+            let image = value(found, "image")?;
+            Some(Job::Adopt { image })
+        }
+        Topic::Upgrade => {
+            let image = value(found, "image")?;
+            Some(Job::Upgrade { image })
+        }
+        _ => help_for(value(found, "job")),
+    }
 }
 
 /// The job, with the arguments that were found for it.
@@ -158,7 +200,7 @@ fn job_for<'r, 'a>(topic: Topic, found: &'r ArgMatches<'a>) -> Option<Job<'r>>
             let (image, other) = pair(found, "image", "other")?;
             Some(Job::Diff { image, other })
         }
-        Topic::Help => help_for(value(found, "job")),
+        topic => changing_job(topic, found),
     }
 }
 

@@ -39,8 +39,10 @@ fn needs(topic: Topic) -> &'static str {
         Topic::Dir => "at least one IMAGE",
         Topic::Out => "IMAGE and FOLDER",
         Topic::Get | Topic::Raw => "IMAGE and NAME",
-        Topic::Free | Topic::Map | Topic::Why => "IMAGE",
+        Topic::Free | Topic::Map | Topic::Why | Topic::Adopt | Topic::Upgrade => "IMAGE",
         Topic::Diff => "IMAGE and OTHER",
+        Topic::Purge => "IMAGE and at least one NAME",
+        Topic::Rename => "IMAGE, OLD and NEW",
         Topic::Help => "no argument",
     }
 }

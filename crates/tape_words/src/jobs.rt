@@ -1,5 +1,5 @@
 ghost use Rattle.std.specs.Prelude.{◌≡◌};
-ghost use Rattle.tape_words.specs.Asked.{topic_in};
+ghost use Rattle.tape_words.specs.Asked.{changing_topic, topic_in};
 
 /// A job that `tape help` can explain.
 #[derive(Clone, Copy, Debug, PartialEq, Eq)]
@@ -20,6 +20,14 @@ pub enum Topic {
     Why,
     /// `tape diff`.
     Diff,
+    /// `tape purge`.
+    Purge,
+    /// `tape rename`.
+    Rename,
+    /// `tape adopt`.
+    Adopt,
+    /// `tape upgrade`.
+    Upgrade,
     /// `tape help`.
     Help,
 }
@@ -83,6 +91,32 @@ pub enum Job<'a> {
         /// The name of the second image.
         other: &'a str,
     },
+    /// Purges files of an image.
+    Purge {
+        /// The name of the image.
+        image: &'a str,
+        /// The names of the files, at least one, in the order of the arguments.
+        names: &'a [&'a str],
+    },
+    /// Gives a file of an image another name.
+    Rename {
+        /// The name of the image.
+        image: &'a str,
+        /// The name that the file has.
+        old: &'a str,
+        /// The name that it gets.
+        new: &'a str,
+    },
+    /// Gives a volume of another program its redo file.
+    Adopt {
+        /// The name of the image.
+        image: &'a str,
+    },
+    /// Makes the redo file of an image one of version 2.
+    Upgrade {
+        /// The name of the image.
+        image: &'a str,
+    },
     /// Explains one job, or the whole program if there is no topic.
     Help {
         /// The job that is explained.
@@ -119,6 +153,25 @@ pub(crate) fn topic_of(name: &str) -> Option<Topic>
     }
     if name == "diff" {
         return Some(Topic::Diff);
+    }
+    changing_topic(name)
+}
+
+/// The job of this name, if it changes an image; or that of help.
+fn changing_topic(name: &str) -> Option<Topic>
+    ensures { result ≡ changing_topic name.now }
+{
+    if name == "purge" {
+        return Some(Topic::Purge);
+    }
+    if name == "rename" {
+        return Some(Topic::Rename);
+    }
+    if name == "adopt" {
+        return Some(Topic::Adopt);
+    }
+    if name == "upgrade" {
+        return Some(Topic::Upgrade);
     }
     if name == "help" {
         return Some(Topic::Help);

@@ -2,7 +2,7 @@ ghost use Rattle.std.specs.Prelude.{◌≡◌, IfOk, false};
 ghost use Rattle.clap.specs.Words.{app_of, rule_of};
 ghost use Rattle.clap.specs.declared.builder.command.Command.TheViews.{out-Command};
 ghost use Rattle.tape_words.specs.Simple.{switch_rule, one_rule, several_rule};
-ghost use Rattle.tape_words.specs.Simple.{plain_app, dir_app, out_app, file_app, image_app, map_app, diff_app, help_app};
+ghost use Rattle.tape_words.specs.Simple.{plain_app, dir_app, out_app, file_app, image_app, map_app, diff_app, help_app, purge_app, rename_app};
 ghost use Rattle.tape_words.specs.Simple.{app_for};
 ghost use Rattle.tape_words.specs.Simple.{top_app, program_app, tape_app, page_app};
 
@@ -191,6 +191,44 @@ fn help<'a>(alloc: Global) -> Result<Command<'a>, AllocError>
     Ok(command)
 }
 
+fn purge<'a>(alloc: Global) -> Result<Command<'a>, AllocError>
+    ensures app { IfOk result (λ c. app_of c ≡ purge_app) }
+    ensures local { IfOk result (λ c. (out-Command c).has_globals ≡ false) }
+{
+    let command = plain(
+        alloc,
+        "purge",
+        "Purges files of IMAGE",
+        "tape purge IMAGE NAME...",
+    )
+    .arg(one(alloc, "image", "IMAGE", IMAGE_HELP))?
+    .arg(several(alloc, "names", "NAME", NAME_HELP))?
+    .arg(flag(alloc, "help", "Print this page"))?;
+    Ok(command)
+}
+
+fn rename<'a>(alloc: Global) -> Result<Command<'a>, AllocError>
+    ensures app { IfOk result (λ c. app_of c ≡ rename_app) }
+    ensures local { IfOk result (λ c. (out-Command c).has_globals ≡ false) }
+{
+    let command = plain(
+        alloc,
+        "rename",
+        "Gives a file of IMAGE another name",
+        "tape rename IMAGE OLD NEW",
+    )
+    .arg(one(alloc, "image", "IMAGE", IMAGE_HELP))?
+    .arg(one(alloc, "old", "OLD", NAME_HELP))?
+    .arg(one(
+        alloc,
+        "new",
+        "NEW",
+        "Its new name: a letter, then letters, digits and _, ten at most",
+    ))?
+    .arg(flag(alloc, "help", "Print this page"))?;
+    Ok(command)
+}
+
 /// The command that takes the arguments of one job.
 pub(crate) fn job_command<'a>(alloc: Global, topic: Topic) -> Result<Command<'a>, AllocError>
     ensures app { IfOk result (λ c. app_of c ≡ app_for topic) }
@@ -225,6 +263,20 @@ pub(crate) fn job_command<'a>(alloc: Global, topic: Topic) -> Result<Command<'a>
             "tape why IMAGE",
         ),
         Topic::Diff => diff(alloc),
+        Topic::Purge => purge(alloc),
+        Topic::Rename => rename(alloc),
+        Topic::Adopt => image(
+            alloc,
+            "adopt",
+            "Gives a volume of another program its redo file",
+            "tape adopt IMAGE",
+        ),
+        Topic::Upgrade => image(
+            alloc,
+            "upgrade",
+            "Makes the redo file large, so that files can be replaced",
+            "tape upgrade IMAGE",
+        ),
         Topic::Help => help(alloc),
     }
 }
@@ -267,6 +319,10 @@ pub(crate) fn command<'a>(alloc: Global) -> Result<Command<'a>, AllocError>
         .subcommand(job_command(alloc, Topic::Map)?)?
         .subcommand(job_command(alloc, Topic::Why)?)?
         .subcommand(job_command(alloc, Topic::Diff)?)?
+        .subcommand(job_command(alloc, Topic::Purge)?)?
+        .subcommand(job_command(alloc, Topic::Rename)?)?
+        .subcommand(job_command(alloc, Topic::Adopt)?)?
+        .subcommand(job_command(alloc, Topic::Upgrade)?)?
         .subcommand(job_command(alloc, Topic::Help)?)?;
     Ok(command)
 }

@@ -1,5 +1,5 @@
 use Rattle.std.proofs.Common.{inr, subst}
-use Rattle.tape_says.specs.Outputs.{written}
+use Rattle.tape_volumes.specs.Outputs.{written}
 use Rattle.tape.specs.Whys.{TellsWhy}
 use Rattle.tape.proofs.why.why_in.Goals as goal
 

@@ -1,6 +1,6 @@
 use Rattle.std.proofs.Common.{rules}
 use Rattle.lif_dir.specs.Entries.{name_bytes}
-use Rattle.tape_jobs.specs.Volumes.{content_in}
+use Rattle.tape_volumes.specs.Volumes.{content_in}
 use Rattle.tape_jobs.proofs.Copies.{beside_fetch}
 use Rattle.tape_jobs.proofs.Gathered.{collected_fault, collected_file, collected_refused, collected_unable}
 use Rattle.tape_jobs.proofs.collecting.collect_file.Goals as goal

@@ -1,7 +1,8 @@
 use Rattle.std.proofs.Common.{◌∙◌, List, false, length, map, refl, ap, arith}
 use Rattle.std.proofs.lemmas.List.{take_more}
+use Rattle.std.proofs.lemmas.List.Elements.{All-contains_itself}
 use Rattle.lif_model.specs.Apply.{Dir}
-use Rattle.tape_jobs.specs.Volumes.{StopLeaves}
+use Rattle.tape_volumes.specs.Volumes.{StopLeaves}
 use Rattle.tape_jobs.specs.declared.collecting.Collected.{Collected}
 use Rattle.tape_jobs.proofs.Copies.{beside_next, beside_none, reads_none, reads_on}
 use Rattle.tape_jobs.proofs.Gathered.{contents_more, named_ended, names_more}
@@ -11,8 +12,8 @@ pub returns-in-Err-clause-collected : goal.returns-in-Err-clause-collected
 returns-in-Err-clause-collected g c =
     let v = g.V.Volumes.seen in
     let held = c.names.invariant in
-    named_ended c.in-Err.went c.args.names.now c.collect_file.new.files.items (v c.args.volumes.now).mounted (v c.names.volumes).mounted (v c.collect_file.new.volumes).mounted
-    held.reads held.same c.in-Err.ensures.collected.0 c.in-Err.ensures.collected.1
+    named_ended c.in-Err.went c.args.names.now _ c.collect_file.new.files.items (v c.args.volumes.now).mounted (v c.names.volumes).mounted (v c.collect_file.new.volumes).mounted
+    (All-contains_itself c.args.names.now c.names.name-index _ (omega (arith, c.names-test.true))) held.reads held.same c.in-Err.ensures.collected.0 c.in-Err.ensures.collected.1
 
 pub returns-in-Err-clause-beside : goal.returns-in-Err-clause-beside
 returns-in-Err-clause-beside g c =

@@ -3,7 +3,7 @@ use Rattle.std.specs.Prelude.{All}
 use Rattle.lif_model.specs.Apply.{Dir}
 use Rattle.tape_jobs.specs.Collecting.{IsFileShown, SameVolume}
 use Rattle.tape_jobs.specs.Out.{GoesOnBeside, OnlyReads}
-use Rattle.tape_jobs.specs.Volumes.{StopLeaves, volume_shown}
+use Rattle.tape_volumes.specs.Volumes.{StopLeaves, volume_shown}
 use Rattle.tape_jobs.proofs.collecting.collect_files.Given as goal
 
 abbrev pub invariant-names : goal.invariant-names

@@ -1,6 +1,6 @@
 use Rattle.std.proofs.Common.{rules}
 use Rattle.lif_dir.specs.Entries.{name_bytes}
-use Rattle.tape_jobs.specs.Volumes.{content_in}
+use Rattle.tape_volumes.specs.Volumes.{content_in}
 use Rattle.tape_jobs.proofs.Copies.{beside_fetch, took_fault, took_file, took_refused}
 use Rattle.tape_jobs.proofs.copying.take_file.Goals as goal
 

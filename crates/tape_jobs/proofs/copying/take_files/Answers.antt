@@ -1,7 +1,7 @@
 use Rattle.std.proofs.Common.{◌≡◌, ◌∙◌, ◌++◌, ◌∷◌, [], List, false, length, map, refl, sym, ap, subst, arith, rules}
 use Rattle.std.proofs.lemmas.List.{take_more}
 use Rattle.lif_model.specs.Apply.{Dir}
-use Rattle.tape_jobs.specs.Volumes.{StopLeaves}
+use Rattle.tape_volumes.specs.Volumes.{StopLeaves}
 use Rattle.tape_jobs.specs.Out.{Copied, has_fault}
 use Rattle.tape_jobs.specs.declared.copying.Taken.{Taken}
 use Rattle.tape_jobs.proofs.Copies.{beside_next, beside_none, copied_next, copied_none, count_on, end_taken, names_on, pushed, reads_none}

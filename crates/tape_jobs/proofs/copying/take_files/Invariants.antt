@@ -2,7 +2,7 @@ use Rattle.std.proofs.Common.{◌≡◌, ◌≤◌, length, map, take}
 use Rattle.std.specs.Vec.{vec_capacity}
 use Rattle.lif_model.specs.Apply.{Dir}
 use Rattle.tape_jobs.specs.Out.{Copied, GoesOnBeside, has_fault}
-use Rattle.tape_jobs.specs.Volumes.{StopLeaves}
+use Rattle.tape_volumes.specs.Volumes.{StopLeaves}
 use Rattle.tape_jobs.proofs.copying.take_files.Given as goal
 
 abbrev pub invariant-loop-name : goal.invariant-loop-name

@@ -15,4 +15,8 @@ returns c =
     let six = c.in_ok-subcommand-6.ensures.shape c.in_ok-job_command-6.ensures.local ∙ ap₂ with_subcommand five (ap top c.in_ok-job_command-6.ensures.app) in
     let seven = c.in_ok-subcommand-7.ensures.shape c.in_ok-job_command-7.ensures.local ∙ ap₂ with_subcommand six (ap top c.in_ok-job_command-7.ensures.app) in
     let eight = c.in_ok-subcommand-8.ensures.shape c.in_ok-job_command-8.ensures.local ∙ ap₂ with_subcommand seven (ap top c.in_ok-job_command-8.ensures.app) in
-    c.in_ok-command.ensures.shape c.in_ok-job_command-9.ensures.local ∙ ap₂ with_subcommand eight (ap top c.in_ok-job_command-9.ensures.app)
+    let nine = c.in_ok-subcommand-9.ensures.shape c.in_ok-job_command-9.ensures.local ∙ ap₂ with_subcommand eight (ap top c.in_ok-job_command-9.ensures.app) in
+    let ten = c.in_ok-subcommand-10.ensures.shape c.in_ok-job_command-10.ensures.local ∙ ap₂ with_subcommand nine (ap top c.in_ok-job_command-10.ensures.app) in
+    let eleven = c.in_ok-subcommand-11.ensures.shape c.in_ok-job_command-11.ensures.local ∙ ap₂ with_subcommand ten (ap top c.in_ok-job_command-11.ensures.app) in
+    let twelve = c.in_ok-subcommand-12.ensures.shape c.in_ok-job_command-12.ensures.local ∙ ap₂ with_subcommand eleven (ap top c.in_ok-job_command-12.ensures.app) in
+    c.in_ok-command.ensures.shape c.in_ok-job_command-13.ensures.local ∙ ap₂ with_subcommand twelve (ap top c.in_ok-job_command-13.ensures.app)

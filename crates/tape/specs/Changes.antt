@@ -1,0 +1,104 @@
+-- What the jobs do that change one image.
+use Rattle.std.specs.Prelude.{◌≡◌, ◌⊎◌, ℕ, true, false, List, [], ◌∷◌, map, Option, Some, None, option_and_then, codes}
+use Rattle.lif_dir.specs.Names.{new_name}
+use Rattle.lif_dir.specs.declared.entries.Name.{Name}
+use Rattle.lif_dir.specs.declared.names.NewName.{NewName}
+use Rattle.il_ports.specs.Media.{MediumView}
+use Rattle.il_script.specs.declared.reply.Reply.{Reply}
+use Rattle.tape_changes.specs.ChangeMessages.{change_messages}
+use Rattle.tape_changes.specs.Changing.{ChangesDid, FrontIsLeft, Output, commands_of, output}
+use Rattle.tape_changes.specs.declared.changing.Step.{Step}
+use Rattle.tape_volumes.specs.Endings.{ending_status, told_line}
+use Rattle.tape_volumes.specs.Messages.{WritesMessage, no_name_line}
+use Rattle.tape_volumes.specs.Outputs.{LacksMemory, PrintsNothing, TellsNothing, WritesError, Written}
+use Rattle.tape_volumes.specs.declared.change.Change.{Change}
+use Rattle.tape_volumes.specs.declared.change.Change.TheVariants as change
+use Rattle.tape_volumes.specs.declared.ending.Ending.{Ending}
+use Rattle.tape.specs.Images.{DriveSight, JobEnds}
+use Rattle.tape.specs.Names.{name_spelt, names_spelt, unspelt}
+
+-- a change, what its message says that it concerns, and what is printed once it was made
+pub record SaidStep : Type 0 where
+  pub change : Change
+  pub subject : List ℕ
+  pub line : List ℕ
+
+abbrev pub said : Step → SaidStep
+said step = record { change = step.change; subject = step.subject.now; line = step.line.now }
+
+-- how the job ends on the image of that name
+abbrev pub ChangesEnd : (refused : Type 0) → Ending → (image : List ℕ) (steps : List Step) (replies : List Reply) (v w : MediumView) (old now : Output) → Type 0
+ChangesEnd refused e image steps replies v m old now =
+    JobEnds (λ w s t. ChangesDid false steps w replies s t old now) (FrontIsLeft (commands_of steps)) ((replies ≡ []) × (now ≡ old)) refused e image v m
+
+-- The image of that name was inserted in an empty drive, and the changes of these steps were made, one after the other;
+-- the job ended so, and its messages were written.
+pub record ImageIsChanged {M : Type 0} (drives : DriveSight M) (image : List ℕ) (steps : List Step) (status : ℕ) (old now : Written) : Type 0 where
+  pub drive : M
+  pub drive_now : M
+  pub empty : (drives.view drive).record_count ≡ 0
+  pub ending : Ending
+  pub replies : List Reply
+  pub ends : ChangesEnd (drives.refuses drive drive_now image) ending image steps replies (drives.view drive) (drives.view drive_now)
+      (output old.out old.out_faults) (output now.out now.out_faults)
+  pub status_is : status ≡ ending_status ending
+  pub says : WritesMessage (change_messages image ending steps replies) old.error now.error old.error_faults now.error_faults
+
+-- The image was changed by steps that say this, or there was no memory to begin with.
+abbrev pub ChangesBy : {M : Type 0} → DriveSight M → (image : List ℕ) → List SaidStep → (status : ℕ) → (old now : Written) → Type 0
+ChangesBy drives image steps status old now =
+    LacksMemory status old now ⊎ ((taken : List Step) × (map said taken ≡ steps) × ImageIsChanged drives image taken status old now)
+
+-- an argument is refused, with this line
+abbrev pub RefusesText : List ℕ → (status : ℕ) → (old now : Written) → Type 0
+RefusesText line status old now = (status ≡ 2) × PrintsNothing old now × WritesError line old now
+
+-- ---- purge
+
+-- one purge for each name, which the text spells
+abbrev pub purges : List Name → List (List ℕ) → List SaidStep
+purges (name ∷ names) (text ∷ texts) = record { change = change.Purge name; subject = text; line = [] } ∷ purges names texts
+purges _ _ = []
+
+abbrev pub PurgesBy : {M : Type 0} → DriveSight M → (image : List ℕ) → Option (List Name) → (unspelt : Option (List ℕ)) → (texts : List (List ℕ)) → (status : ℕ) → (old now : Written) → Type 0
+PurgesBy drives image (Some names) unspelt texts status old now = ChangesBy drives image (purges names texts) status old now
+PurgesBy drives image None (Some text) texts status old now = RefusesText (no_name_line text) status old now
+PurgesBy drives image None None texts status old now = ⊥
+
+-- The files whose names these texts spell were purged, or there was no memory to begin with. The first text that spells the
+-- name of no file is refused. Without a text nothing is done.
+abbrev pub PurgesFiles : {M : Type 0} → DriveSight M → (image : List ℕ) → (texts : List (List ℕ)) → (status : ℕ) → (old now : Written) → Type 0
+PurgesFiles drives image [] status old now = (status ≡ 0) × PrintsNothing old now × TellsNothing old now
+PurgesFiles drives image (text ∷ texts) status old now =
+    LacksMemory status old now ⊎ PurgesBy drives image (names_spelt (text ∷ texts)) (unspelt (text ∷ texts)) (text ∷ texts) status old now
+
+-- ---- rename
+
+-- the name that a text spells, if a file can be given it
+abbrev pub new_name_spelt : List ℕ → Option NewName
+new_name_spelt text = option_and_then new_name (name_spelt text)
+
+abbrev pub no_new_name_line : List ℕ → List ℕ
+no_new_name_line text = told_line text (codes "a file can be given a name of a letter, and then letters, digits and _, ten at most") []
+
+abbrev pub RenamesBy : {M : Type 0} → DriveSight M → (image : List ℕ) → Option Name → Option NewName → (from to : List ℕ) → (status : ℕ) → (old now : Written) → Type 0
+RenamesBy drives image None name_now from to status old now = RefusesText (no_name_line from) status old now
+RenamesBy drives image (Some name) None from to status old now = RefusesText (no_new_name_line to) status old now
+RenamesBy drives image (Some name) (Some name_now) from to status old now =
+    ChangesBy drives image (record { change = change.Rename name name_now; subject = from; line = [] } ∷ []) status old now
+
+-- The file whose name one text spells was given the name that another text spells.
+abbrev pub RenamesFile : {M : Type 0} → DriveSight M → (image from to : List ℕ) → (status : ℕ) → (old now : Written) → Type 0
+RenamesFile drives image from to status old now = RenamesBy drives image (name_spelt from) (new_name_spelt to) from to status old now
+
+-- ---- the redo file
+
+-- a step that concerns the redo file
+abbrev pub redo_step : Change → List ℕ → SaidStep
+redo_step c line = record { change = c; subject = codes "redo file"; line = line }
+
+abbrev pub AdoptsVolume : {M : Type 0} → DriveSight M → (image : List ℕ) → (status : ℕ) → (old now : Written) → Type 0
+AdoptsVolume drives image status old now = ChangesBy drives image (redo_step change.Adopt (codes "the volume has its redo file\n") ∷ []) status old now
+
+abbrev pub UpgradesVolume : {M : Type 0} → DriveSight M → (image : List ℕ) → (status : ℕ) → (old now : Written) → Type 0
+UpgradesVolume drives image status old now = ChangesBy drives image (redo_step change.Upgrade (codes "34 records are the redo file's\n") ∷ []) status old now

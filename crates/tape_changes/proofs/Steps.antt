@@ -1,0 +1,195 @@
+-- How the steps of a job add up.
+use Rattle.std.proofs.Common.{◌≡◌, ◌⊎◌, inl, inr, ⊎_elim, ◌≤◌, ◌++◌, ◌∙◌, ℕ, zero, suc, Bool, true, false, List, [], ◌∷◌, Option, Some, None, refl, sym, ap, subst, append_assoc, arith}
+use Rattle.std.specs.Prelude.{◌<◌, ◌+◌, OnErr, Result, Ok, Err, is_ok, is_some, get_or, length, take, if◌then◌else◌}
+use Rattle.std.proofs.lemmas.Grind.{fold-append}
+use Rattle.std.proofs.lemmas.List.{append-nil, length-map, map_more, take-map}
+use Rattle.lif_model.specs.Apply.{VolumeCommand, apply}
+use Rattle.lif_model.specs.Shelf.{Shelf}
+use Rattle.lif_model.specs.Stops.{LeavesOnly}
+use Rattle.lif_model.specs.Tape.{Tape}
+use Rattle.lif_model.specs.Volume.{Volume}
+use Rattle.il_ports.specs.Inserting.{OthersAreKept}
+use Rattle.il_script.specs.declared.reply.Reply.{Reply}
+use Rattle.il_script.specs.declared.reply.Reply.TheVariants as reply
+use Rattle.tape_volumes.specs.Changes.{change_command}
+use Rattle.tape_volumes.specs.Volumes.{CommandDid, DoneWhole, Mounted, OwnsGate, StaysBeside, StopLeaves, VolumesView, volume_seen, volume_shown}
+use Rattle.tape_changes.specs.declared.changing.Step.{Step}
+use Rattle.tape_changes.specs.declared.changing.Next.{Next}
+use Rattle.tape_changes.specs.declared.changing.Next.TheVariants as next
+use Rattle.tape_changes.specs.Changing.{Follows, FrontIsLeft, NextBy, Output, StepTaken, StepsTaken, after, commands_of}
+
+-- ---- the steps so far
+
+-- if these steps are taken from here on, all are taken, with the replies so far and then theirs
+abbrev pub Joins : (early : Bool) → (all steps : List Step) → (done : List Reply) → (s u : Mounted) (old told : Output) → Type 0
+Joins early all steps done s u old told =
+    (replies : List Reply) (lost : Bool) (t : Mounted) (now : Output) → StepsTaken early steps replies lost u t told now → StepsTaken early all (done ++ replies) lost s t old now
+
+module _ (early : Bool) (all steps : List Step) (done : List Reply) (s u : Mounted) (old told : Output) (joins : Joins early all steps done s u old told) where
+  pub joins_next : (step : Step) (more : List Step) (r : Reply) (items : List Reply) (w : Mounted) (now : Output) → steps ≡ step ∷ more → items ≡ done ++ r ∷ []
+      → StepTaken early step r next.GoesOn u w told now → Joins early all more items s w old now
+  joins_next step more r items w now split is taken replies lost t last rest =
+      subst (λ (l : List Reply). StepsTaken early all l lost s t old last) (sym (ap (λ (l : List Reply). l ++ replies) is ∙ append_assoc done (r ∷ []) replies))
+      (joins (r ∷ replies) lost t last (subst (λ (l : List Step). StepsTaken early l (r ∷ replies) lost u t told last) (sym split) (next.GoesOn, w, now, taken, rest)))
+
+  pub joins_last : (step : Step) (more : List Step) (r : Reply) (items : List Reply) (w : Mounted) (now : Output) (n : Next) (lost : Bool) → steps ≡ step ∷ more → items ≡ done ++ r ∷ []
+      → StepTaken early step r n u w told now → Follows n (StepsTaken early more [] lost w w now now) [] lost w w now now → StepsTaken early all items lost s w old now
+  joins_last step more r items w now n lost split is taken follows =
+      subst (λ (l : List Reply). StepsTaken early all l lost s w old now) (sym is)
+      (joins (r ∷ []) lost w now (subst (λ (l : List Step). StepsTaken early l (r ∷ []) lost u w told now) (sym split) (n, w, now, taken, follows)))
+
+  pub joins_all : steps ≡ [] → StepsTaken early all done false s u old told
+  joins_all none =
+      subst (λ (l : List Reply). StepsTaken early all l false s u old told) (append-nil done)
+      (joins [] false u told (subst (λ (l : List Step). StepsTaken early l [] false u u told told) (sym none) (refl, refl, refl)))
+
+pub joins_none : (early : Bool) (all steps : List Step) (done : List Reply) (s : Mounted) (old : Output) → done ≡ [] → steps ≡ all → Joins early all steps done s s old old
+joins_none early all steps done s old none same replies lost t now taken =
+    subst (λ (l : List Reply). StepsTaken early all (l ++ replies) lost s t old now) (sym none) (subst (λ (l : List Step). StepsTaken early l replies lost s t old now) same taken)
+
+-- a push into a vector that has room
+pub pushed : {A T E : Type 0} (result : Result T E) (len cap : ℕ) (items more less : List A) → OnErr result (cap ≤ len) → len < cap → items ≡ (if is_ok result then more else less) → items ≡ more
+pushed (Ok x) len cap items more less full room is = is
+pushed (Err e) len cap items more less full room is = absurd (omega (arith, full, room))
+
+after_it : (n : Next) (rest : Type 0) (replies : List Reply) (lost : Bool) (s t : Mounted) (old now : Output) → (rest → t.records ≡ s.records) → Follows n rest replies lost s t old now → t.records ≡ s.records
+after_it next.GoesOn rest replies lost s t old now by follows = by follows
+after_it next.Ends rest replies lost s t old now by follows = ap (λ (m : Mounted). m.records) follows.2
+after_it next.LosesOutput rest replies lost s t old now by follows = ap (λ (m : Mounted). m.records) follows.2
+
+-- the medium keeps its size
+pub size_kept : (early : Bool) (steps : List Step) (replies : List Reply) (lost : Bool) (s t : Mounted) (old now : Output) → StepsTaken early steps replies lost s t old now → t.records ≡ s.records
+size_kept early [] [] lost s t old now taken = ap (λ (m : Mounted). m.records) taken.1
+size_kept early [] (r ∷ replies) lost s t old now taken = absurd taken
+size_kept early (step ∷ steps) [] lost s t old now taken = absurd taken
+size_kept early (step ∷ steps) (r ∷ replies) lost s t old now (n, u, told, first, follows) =
+    after_it n _ replies lost u t told now (size_kept early steps replies lost u t told now) follows ∙ first.did.records
+
+-- ---- the volume after a front of the commands
+
+-- These commands were performed or refused, without a fault.
+pub record IsAfter (commands : List VolumeCommand) (s u : Mounted) : Type 0 where
+  pub records : u.records ≡ s.records
+  pub seen : is_some u.tape ≡ is_some s.tape
+  pub own : OwnsGate s.tape → OwnsGate u.tape
+  pub volume : is_some s.tape ≡ true → OwnsGate s.tape → volume_seen u.tape ≡ after s.records commands (volume_seen s.tape)
+
+pub after_none : (commands : List VolumeCommand) (s : Mounted) → commands ≡ [] → IsAfter commands s s
+after_none commands s none = record {
+  records = refl;
+  seen = refl;
+  own = λ own. own;
+  volume = λ told own. sym (ap (λ (l : List VolumeCommand). after s.records l (volume_seen s.tape)) none);
+}
+
+seen_of : (w : Option Tape) (v : Option Volume) → volume_shown w ≡ Some v → volume_seen w ≡ v
+seen_of None v e = cc
+seen_of (Some z) v e = cc
+
+shown_of : (u : Option Tape) → is_some u ≡ true → volume_shown u ≡ Some (volume_seen u)
+shown_of None e = cc
+shown_of (Some y) e = refl
+
+done_so : (early : Bool) (r answer : Reply) (line : List ℕ) (before now : Option (List ℕ)) (faults faults_now : ℕ) (own : Type 0) (was is : Option Volume) (shown : Option (Option Volume))
+    → NextBy early r line next.GoesOn before now faults faults_now → DoneWhole r answer own was is shown → shown ≡ Some is
+done_so early reply.Ok answer line before now faults faults_now own was is shown tells done = done.1
+done_so early (reply.No code) answer line before now faults faults_now own was is shown tells done = done.1
+done_so early reply.FaultFrame answer line before now faults faults_now own was is shown tells done = absurd done
+done_so early reply.FaultMedium answer line before now faults faults_now own was is shown tells done = let no : next.GoesOn ≡ next.Ends = tells.0 in cc
+
+module _ (all front : List VolumeCommand) (command : VolumeCommand) (is : all ≡ front ++ command ∷ []) (s u : Mounted) (before : IsAfter front s u) where
+  one_more : is_some s.tape ≡ true → OwnsGate s.tape → (apply u.records command (volume_seen u.tape)).1 ≡ after s.records all (volume_seen s.tape)
+  one_more told own =
+      (λ j. (apply (before.records j) command (before.volume told own j)).1)
+      ∙ sym (ap (λ (l : List VolumeCommand). after s.records l (volume_seen s.tape)) is ∙ fold-append (λ (v : Option Volume) (c : VolumeCommand). (apply s.records c v).1) (volume_seen s.tape) front (command ∷ []))
+
+  pub after_next : (early : Bool) (r : Reply) (line : List ℕ) (w : Mounted) (old now : Output) → CommandDid command r u w → NextBy early r line next.GoesOn old.text now.text old.faults now.faults → IsAfter all s w
+  after_next early r line w old now did tells = record {
+    records = did.records ∙ before.records;
+    seen = did.seen ∙ before.seen;
+    own = λ own. did.own (before.own own);
+    volume = λ told own.
+        seen_of w.tape _ (done_so early r _ line old.text now.text old.faults now.faults _ _ _ _ tells (did.whole (volume_seen u.tape) (shown_of u.tape (before.seen ∙ told))))
+        ∙ one_more told own;
+  }
+
+  -- a power stop within the next command
+  pub left_next : (commands : List VolumeCommand) (i : ℕ) → i < length commands → front ≡ take i commands → all ≡ take (i + 1) commands → is_some s.tape ≡ true
+      → (x : Tape) → StopLeaves command u x → FrontIsLeft commands s x
+  left_next commands i lt fronts alls told x left own =
+      ⊎_elim (λ same. (i, omega (arith, lt), same ∙ before.volume told own ∙ ap (λ (l : List VolumeCommand). after s.records l (volume_seen s.tape)) fronts))
+      (λ made. (i + 1, omega (arith, lt), made ∙ one_more told own ∙ ap (λ (l : List VolumeCommand). after s.records l (volume_seen s.tape)) alls)) (left (before.own own))
+
+pub commands_next : (steps : List Step) (i : ℕ) (step : Step) → i < length steps → take (i + 1) (commands_of steps) ≡ take i (commands_of steps) ++ change_command (get_or steps i step).change ∷ []
+commands_next steps i step lt =
+    let f = λ (step : Step). change_command step.change in
+    take-map f (i + 1) steps ∙ map_more f steps i step lt ∙ ap (λ (l : List VolumeCommand). l ++ change_command (get_or steps i step).change ∷ []) (sym (take-map f i steps))
+
+pub left_at : (steps : List Step) (i : ℕ) (step : Step) (s u : Mounted) → i < length steps → IsAfter (take i (commands_of steps)) s u → is_some s.tape ≡ true
+    → (x : Tape) → StopLeaves (change_command (get_or steps i step).change) u x → FrontIsLeft (commands_of steps) s x
+left_at steps i step s u lt before told x left =
+    left_next (take (i + 1) (commands_of steps)) (take i (commands_of steps)) _ (commands_next steps i step lt) s u before (commands_of steps) i
+    (omega (arith, lt, length-map steps (λ (step : Step). change_command step.change))) refl refl told x left
+
+-- ---- beside the tape, and after power stops
+
+-- After i steps nothing changed beside the tape, and each tape that a stop may have left has the property `leaves`, or
+-- could be left before.
+pub record GoesBeside (i : ℕ) (leaves : Tape → Type 0) (v w : VolumesView) : Type 0 where
+  pub start : i ≡ 0 → w.moment ≡ v.moment
+  pub later : is_some v.mounted.tape ≡ true → v.moment ≤ w.moment
+  pub each : 0 < i → is_some v.mounted.tape ≡ true → (x : Tape) → w.left_since v.moment x → leaves x
+  pub earlier : is_some v.mounted.tape ≡ true → (m : ℕ) (x : Tape) → m ≤ v.moment → w.left_since m x → v.left_since m x ⊎ leaves x
+  pub same : w.inside ≡ v.inside
+  pub others : OthersAreKept v.inside v.images w.images
+
+pub beside_none : (P : Tape → Type 0) (v : VolumesView) → GoesBeside 0 P v v
+beside_none P v = record {
+  start = λ none. refl;
+  later = λ told. omega arith;
+  each = λ lt. absurd (omega (arith, lt));
+  earlier = λ told m x le left. inl left;
+  same = refl;
+  others = λ name s is old. (s, old, λ other not. refl);
+}
+
+others_on : (a b : Option (List ℕ)) (x y z : Option Shelf) → b ≡ a → OthersAreKept a x y → OthersAreKept b y z → OthersAreKept a x z
+others_on a b x y z same first last name s is old =
+    let u = first name s is old in
+    let w = last name u.0 (same ∙ is) u.1 in
+    (w.0, w.1, λ other not. w.2 other not ∙ u.2 other not)
+
+each_next : (i : ℕ) (P Q : Tape → Type 0) (v u w : VolumesView) → is_some v.mounted.tape ≡ true → ((x : Tape) → Q x → P x) → GoesBeside i P v u
+    → LeavesOnly u.moment w.moment u.left_since w.left_since Q → (x : Tape) → w.left_since v.moment x → P x
+each_next zero P Q v u w told weak a b x left = weak x (b.each x (subst (λ (m : ℕ). w.left_since m x) (sym (a.start refl)) left))
+each_next (suc i) P Q v u w told weak a b x left = ⊎_elim (a.each (omega arith) told x) (weak x) (b.earlier v.moment x (a.later told) left)
+
+-- one step more
+pub beside_next : (i : ℕ) (P Q : Tape → Type 0) (v u w : VolumesView) → is_some u.mounted.tape ≡ is_some v.mounted.tape → (is_some v.mounted.tape ≡ true → (x : Tape) → Q x → P x)
+    → GoesBeside i P v u → StaysBeside Q u w → StaysBeside P v w
+beside_next i P Q v u w seen weak a b = record {
+  stops = λ told. record {
+    later = omega (arith, a.later told, (b.stops (seen ∙ told)).later);
+    each = each_next i P Q v u w told (weak told) a (b.stops (seen ∙ told));
+    earlier = λ m x le left. ⊎_elim (a.earlier told m x le) (λ is. inr (weak told x is)) ((b.stops (seen ∙ told)).earlier m x (omega (arith, le, a.later told)) left);
+  };
+  same = b.same ∙ a.same;
+  others = others_on v.inside u.inside v.images u.images w.images a.same a.others b.others;
+}
+
+pub beside_on : (i : ℕ) (P : Tape → Type 0) (v w : VolumesView) → StaysBeside P v w → GoesBeside (i + 1) P v w
+beside_on i P v w b = record {
+  start = λ none. absurd (omega (arith, none));
+  later = λ told. (b.stops told).later;
+  each = λ lt told. (b.stops told).each;
+  earlier = λ told. (b.stops told).earlier;
+  same = b.same;
+  others = b.others;
+}
+
+pub beside_all : (i : ℕ) (P : Tape → Type 0) (v w : VolumesView) → 0 < i → GoesBeside i P v w → StaysBeside P v w
+beside_all i P v w lt a = record {
+  stops = λ told. record { later = a.later told; each = a.each lt told; earlier = a.earlier told };
+  same = a.same;
+  others = a.others;
+}

@@ -1,0 +1,143 @@
+//! What a job that changes an image writes on standard error.
+ghost use Rattle.std.specs.Prelude.{◌≡◌, OnOk};
+ghost use Rattle.std.specs.Io.KnownBytes.{Appends};
+ghost use Rattle.lif_model.specs.Causes.{HasCause};
+ghost use Rattle.tape_changes.specs.ChangeMessages.{change_advice, change_messages, step_message, step_messages};
+ghost use Rattle.tape_volumes.specs.Endings.{of_image, told_line};
+ghost use Rattle.tape_volumes.specs.Messages.{WritesMessage};
+
+use crate::changing::Step;
+use il_ports::{Failed, Sink};
+use il_script::{Code, Reply};
+use tape_volumes::{Change, Ending, Went, write_ending_of, write_parts};
+
+/// What an error of the volume means for a change, and what to do about it, after a colon.
+fn change_advice(change: &Change<'_>, code: Code) -> &'static [u8]
+    ensures { result.now ≡ change_advice change.now code }
+{
+    match (change, code) {
+        (_, Code::NotLif) => b": it has no LIF volume that can be read; 'tape why IMAGE' tells why",
+        (_, Code::NoFile) => b": there is no file of that name",
+        (Change::Adopt, Code::Exists) => b": a file of another program has the name REDOFILE",
+        (_, Code::Exists) => b": there is a file of that name already",
+        (_, Code::NoSlot) => b": its directory has no free slot",
+        (Change::Format { .. }, Code::NoRoom) => b": it has no room for so many slots",
+        (_, Code::NoRoom) => b": no free place on it is large enough",
+        (_, Code::NoRedo) => b": it has no redo file; 'tape adopt IMAGE' makes one",
+        (_, Code::InUse) => b": a file lies in the records that the redo file needs",
+        (_, Code::Protected) => b": it is the redo file",
+        (_, Code::NeedsUpgrade) => b": run 'tape upgrade IMAGE' first; that takes 30 records",
+        _ => b"",
+    }
+}
+
+/// Writes why the change of a step was not made, and what that means.
+fn write_told_of<K: Sink>(
+    to: &mut K,
+    image: &str,
+    step: &Step<'_>,
+    cause: &[u8],
+    advice: &[u8],
+) -> Result<(), Failed>
+    ensures parts { OnOk result (Appends (K.written to.old) (K.written to.new)
+        (told_line (of_image image.now step.now.subject.now) cause.now advice.now)) }
+    ensures cause { HasCause (K.faults to.old) (K.faults to.new) result }
+{
+    write_parts(
+        to,
+        &[
+            b"tape: ",
+            image.as_bytes(),
+            b": ",
+            step.subject,
+            b": ",
+            cause,
+            advice,
+            b"\n",
+        ],
+    )
+}
+
+/// Writes the message of a step, unless its change was made. A step without a reply was not taken.
+fn write_step<K: Sink>(
+    to: &mut K,
+    image: &str,
+    step: &Step<'_>,
+    reply: Option<Reply>,
+) -> Result<(), Failed>
+    ensures parts { OnOk result
+        (Appends (K.written to.old) (K.written to.new) (step_message image.now step.now reply)) }
+    ensures cause { HasCause (K.faults to.old) (K.faults to.new) result }
+{
+    match reply {
+        Some(Reply::Ok) => Ok(()),
+        Some(Reply::No(code)) => {
+            let refused = Ending::Went(Went::Refused(code));
+            write_told_of(
+                to,
+                image,
+                step,
+                refused.cause(),
+                change_advice(&step.change, code),
+            )
+        }
+        Some(Reply::FaultFrame | Reply::FaultMedium) => {
+            let fault = Ending::Went(Went::Fault);
+            write_told_of(to, image, step, fault.cause(), b"")
+        }
+        None => write_told_of(to, image, step, b"it was not tried", b""),
+    }
+}
+
+/// Writes the messages of the steps whose changes were not made.
+fn write_steps<K: Sink>(
+    to: &mut K,
+    image: &str,
+    steps: &[Step<'_>],
+    replies: &[Reply],
+) -> Result<(), Failed>
+    ensures parts { OnOk result (Appends (K.written to.old) (K.written to.new)
+        (step_messages image.now steps.now replies.now)) }
+    ensures cause { HasCause (K.faults to.old) (K.faults to.new) result }
+{
+    'steps: for place in 0..steps.len() {
+        write_step(to, image, &steps[place], replies.get(place).copied())?;
+    }
+    Ok(())
+}
+
+/// Writes all messages of the job.
+fn write_all_of<K: Sink>(
+    to: &mut K,
+    image: &str,
+    ending: Ending,
+    steps: &[Step<'_>],
+    replies: &[Reply],
+) -> Result<(), Failed>
+    ensures parts { OnOk result (Appends (K.written to.old) (K.written to.new)
+        (change_messages image.now ending steps.now replies.now)) }
+    ensures cause { HasCause (K.faults to.old) (K.faults to.new) result }
+{
+    match ending {
+        Ending::Went(Went::Done | Went::NotAll) => write_steps(to, image, steps, replies),
+        Ending::Went(Went::Unwritten) => {
+            write_ending_of(to, image, &ending)?;
+            write_steps(to, image, steps, replies)
+        }
+        _ => write_ending_of(to, image, &ending),
+    }
+}
+
+/// Writes the messages of the job. They are lost if standard error cannot be written.
+pub fn write_changed<K: Sink>(
+    to: &mut K,
+    image: &str,
+    ending: Ending,
+    steps: &[Step<'_>],
+    replies: &[Reply],
+)
+    ensures { WritesMessage (change_messages image.now ending steps.now replies.now)
+        (K.written to.old) (K.written to.new) (K.faults to.old) (K.faults to.new) }
+{
+    let _ = write_all_of(to, image, ending, steps, replies);
+}

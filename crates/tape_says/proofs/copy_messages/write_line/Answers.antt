@@ -1,6 +1,0 @@
-use Rattle.tape_says.specs.Endings.{told_line}
-use Rattle.tape_says.proofs.Said.{as_told}
-use Rattle.tape_says.proofs.copy_messages.write_line.Goals as goal
-
-pub returns-clause-parts : goal.returns-clause-parts
-returns-clause-parts g c = as_told _ _ c.write_told.result _ _ (λ i. told_line c.args.subject.now (c.cause.ensures i) (c.advice.ensures i)) c.write_told.ensures.parts

@@ -1,4 +1,0 @@
-pub mod Endings
-pub mod Messages
-pub mod Outputs
-pub mod CopyMessages

@@ -1,0 +1,5 @@
+pub mod Changes
+pub mod Volumes
+pub mod Endings
+pub mod Messages
+pub mod Outputs
