@@ -5,3 +5,4 @@ mod Spelt
 mod Wholes
 mod Performed
 mod Purged
+mod Compared

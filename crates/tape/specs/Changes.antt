@@ -1,12 +1,11 @@
 -- What the jobs do that change one image.
-use Rattle.std.specs.Prelude.{◌≡◌, ◌⊎◌, ℕ, true, false, List, [], ◌∷◌, map, Option, Some, None, option_and_then, codes}
-use Rattle.lif_dir.specs.Names.{new_name}
+use Rattle.std.specs.Prelude.{◌≡◌, ◌⊎◌, ℕ, false, List, [], ◌∷◌, map, Option, Some, None, codes}
 use Rattle.lif_dir.specs.declared.entries.Name.{Name}
 use Rattle.lif_dir.specs.declared.names.NewName.{NewName}
 use Rattle.il_ports.specs.Media.{MediumView}
 use Rattle.il_script.specs.declared.reply.Reply.{Reply}
 use Rattle.tape_changes.specs.ChangeMessages.{change_messages}
-use Rattle.tape_changes.specs.Changing.{ChangesDid, FrontIsLeft, Output, commands_of, output}
+use Rattle.tape_changes.specs.Changing.{ChangesDid, FrontIsLeft, Output, commands_of, output_of}
 use Rattle.tape_changes.specs.declared.changing.Step.{Step}
 use Rattle.tape_volumes.specs.Endings.{ending_status, told_line}
 use Rattle.tape_volumes.specs.Messages.{WritesMessage, no_name_line}
@@ -15,9 +14,9 @@ use Rattle.tape_volumes.specs.declared.change.Change.{Change}
 use Rattle.tape_volumes.specs.declared.change.Change.TheVariants as change
 use Rattle.tape_volumes.specs.declared.ending.Ending.{Ending}
 use Rattle.tape.specs.Images.{DriveSight, JobEnds}
-use Rattle.tape.specs.Names.{name_spelt, names_spelt, unspelt}
+use Rattle.tape.specs.Names.{name_spelt, names_spelt, new_name_spelt, unspelt}
 
--- a change, what its message says that it concerns, and what is printed once it was made
+-- a change; the subject of its message; and what is printed once the change was made
 pub record SaidStep : Type 0 where
   pub change : Change
   pub subject : List ℕ
@@ -31,8 +30,8 @@ abbrev pub ChangesEnd : (refused : Type 0) → Ending → (image : List ℕ) (st
 ChangesEnd refused e image steps replies v m old now =
     JobEnds (λ w s t. ChangesDid false steps w replies s t old now) (FrontIsLeft (commands_of steps)) ((replies ≡ []) × (now ≡ old)) refused e image v m
 
--- The image of that name was inserted in an empty drive, and the changes of these steps were made, one after the other;
--- the job ended so, and its messages were written.
+-- The image of that name was inserted in an empty drive, and these steps were taken, one after the other, unless the image
+-- was not opened; the job ended so, and its messages were written.
 pub record ImageIsChanged {M : Type 0} (drives : DriveSight M) (image : List ℕ) (steps : List Step) (status : ℕ) (old now : Written) : Type 0 where
   pub drive : M
   pub drive_now : M
@@ -40,7 +39,7 @@ pub record ImageIsChanged {M : Type 0} (drives : DriveSight M) (image : List ℕ
   pub ending : Ending
   pub replies : List Reply
   pub ends : ChangesEnd (drives.refuses drive drive_now image) ending image steps replies (drives.view drive) (drives.view drive_now)
-      (output old.out old.out_faults) (output now.out now.out_faults)
+      (output_of old.out old.out_faults) (output_of now.out now.out_faults)
   pub status_is : status ≡ ending_status ending
   pub says : WritesMessage (change_messages image ending steps replies) old.error now.error old.error_faults now.error_faults
 
@@ -50,8 +49,8 @@ ChangesBy drives image steps status old now =
     LacksMemory status old now ⊎ ((taken : List Step) × (map said taken ≡ steps) × ImageIsChanged drives image taken status old now)
 
 -- an argument is refused, with this line
-abbrev pub RefusesText : List ℕ → (status : ℕ) → (old now : Written) → Type 0
-RefusesText line status old now = (status ≡ 2) × PrintsNothing old now × WritesError line old now
+abbrev pub RefusesArgument : List ℕ → (status : ℕ) → (old now : Written) → Type 0
+RefusesArgument line status old now = (status ≡ 2) × PrintsNothing old now × WritesError line old now
 
 -- ---- purge
 
@@ -62,7 +61,7 @@ purges _ _ = []
 
 abbrev pub PurgesBy : {M : Type 0} → DriveSight M → (image : List ℕ) → Option (List Name) → (unspelt : Option (List ℕ)) → (texts : List (List ℕ)) → (status : ℕ) → (old now : Written) → Type 0
 PurgesBy drives image (Some names) unspelt texts status old now = ChangesBy drives image (purges names texts) status old now
-PurgesBy drives image None (Some text) texts status old now = RefusesText (no_name_line text) status old now
+PurgesBy drives image None (Some text) texts status old now = RefusesArgument (no_name_line text) status old now
 PurgesBy drives image None None texts status old now = ⊥
 
 -- The files whose names these texts spell were purged, or there was no memory to begin with. The first text that spells the
@@ -74,16 +73,12 @@ PurgesFiles drives image (text ∷ texts) status old now =
 
 -- ---- rename
 
--- the name that a text spells, if a file can be given it
-abbrev pub new_name_spelt : List ℕ → Option NewName
-new_name_spelt text = option_and_then new_name (name_spelt text)
-
 abbrev pub no_new_name_line : List ℕ → List ℕ
-no_new_name_line text = told_line text (codes "a file can be given a name of a letter, and then letters, digits and _, ten at most") []
+no_new_name_line text = told_line text (codes "a file can be given a name of a capital letter, and then capital letters, digits and _, ten at most") []
 
 abbrev pub RenamesBy : {M : Type 0} → DriveSight M → (image : List ℕ) → Option Name → Option NewName → (from to : List ℕ) → (status : ℕ) → (old now : Written) → Type 0
-RenamesBy drives image None name_now from to status old now = RefusesText (no_name_line from) status old now
-RenamesBy drives image (Some name) None from to status old now = RefusesText (no_new_name_line to) status old now
+RenamesBy drives image None name_now from to status old now = RefusesArgument (no_name_line from) status old now
+RenamesBy drives image (Some name) None from to status old now = RefusesArgument (no_new_name_line to) status old now
 RenamesBy drives image (Some name) (Some name_now) from to status old now =
     ChangesBy drives image (record { change = change.Rename name name_now; subject = from; line = [] } ∷ []) status old now
 

@@ -49,8 +49,7 @@ abbrev pub CopiesBy : {M F : Type 0} → DriveSight M → (F → FolderView) →
 CopiesBy drives seen image path (Some asked) unspelt status before now faults faults_now = FilesAreCopied drives seen image path asked status before now faults faults_now
 CopiesBy drives seen image path None unspelt status before now faults faults_now = RefusesText unspelt status before now faults faults_now
 
--- The same; or there was no memory to begin with.
-
+-- The files were copied, or a text is refused; or there was no memory to begin with.
 abbrev pub CopiesFiles : {M F : Type 0} → DriveSight M → (F → FolderView) → (image path : List ℕ) → (texts : List (List ℕ)) → (status : ℕ)
     → (before now : Option (List ℕ)) (faults faults_now : ℕ) → Type 0
 CopiesFiles drives seen image path texts status before now faults faults_now =

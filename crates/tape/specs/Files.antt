@@ -20,7 +20,7 @@ pub record FileIsRead {M : Type 0} (drives : DriveSight M) (part : Part) (image 
   pub status_is : status ≡ ending_status ending
   pub says : WritesFileEnding image text ending old.error now.error old.error_faults now.error_faults
 
--- The same; or there was no memory to begin with. A text that spells the name of no file is refused.
+-- The file was read; or there was no memory to begin with. A text that spells the name of no file is refused.
 abbrev pub ReadsNamedFile : {M : Type 0} → DriveSight M → Part → (image : List ℕ) → Option Name → (text : List ℕ) → (status : ℕ) → (old now : Written) → Type 0
 ReadsNamedFile drives part image (Some file) text status old now =
     LacksMemory status old now ⊎ FileIsRead drives part image file text status old now

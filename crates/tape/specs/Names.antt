@@ -1,6 +1,7 @@
 -- The names of files that arguments spell.
 use Rattle.std.specs.Prelude.{◌≡◌, ℕ, List, [], ◌∷◌, Option, Some, None, find, is_none, option_map, option_and_then, Result, Err}
-use Rattle.lif_dir.specs.Names.{name_of_bytes}
+use Rattle.lif_dir.specs.Names.{name_of_bytes, new_name}
+use Rattle.lif_dir.specs.declared.names.NewName.{NewName}
 use Rattle.lif_dir.specs.declared.entries.Name.{Name}
 use Rattle.il_script.specs.Spelling.{spelt}
 use Rattle.tape.specs.declared.names.NoNames.{NoNames}
@@ -9,6 +10,10 @@ use Rattle.tape.specs.declared.names.NoNames.TheVariants.{NoName}
 -- the name of one to ten bytes that a text spells
 abbrev pub name_spelt : List ℕ → Option Name
 name_spelt text = option_and_then name_of_bytes (spelt text)
+
+-- the name that a text spells, if a file can be given it
+abbrev pub new_name_spelt : List ℕ → Option NewName
+new_name_spelt text = option_and_then new_name (name_spelt text)
 
 -- the names that texts spell, if each of them spells one
 abbrev pub names_spelt : List (List ℕ) → Option (List Name)

@@ -25,9 +25,9 @@ abbrev pub RefusesArguments : (status : ℕ) → Written → Written → Type 0
 RefusesArguments status old now = (status ≡ 2) × PrintsNothing old now × ((text : List ℕ) × WritesError text old now)
 
 -- what arguments ask for, if they could be read
-abbrev pub asked_in : {E : Type 0} → Result (Vec (String Global) Global) E → Option Wanted
-asked_in (Ok words) = arguments_in (map string_bytes words.items)
-asked_in (Err e) = None
+abbrev pub wanted_in : {E : Type 0} → Result (Vec (String Global) Global) E → Option Wanted
+wanted_in (Ok words) = arguments_in (map string_bytes words.items)
+wanted_in (Err e) = None
 
 -- What is done if this is asked for, over drives, drives that only read, drives in memory, and folders.
 module _ {M N O F : Type 0} (drives : DriveSight M) (readers : DriveSight N) (memory : DriveSight O) (seen : F → FolderView) where

@@ -44,7 +44,7 @@ abbrev pub status_or : Option Ending → Bool → ℕ
 status_or (Some e) done = ending_status e
 status_or None done = if done then 0 else 1
 
--- the exit status of a job on several images that ended so: that of the ending that was the job's, if there is one; or 0 if all was done, and else 1
+-- the exit status of a job on several images that ended so: that of the ending at which the job ended, if there is one; or 0 if all was done, and else 1
 abbrev pub status_of_all : List Ending → ℕ
 status_of_all ends = status_or (find is_last ends) (list_all is_done ends)
 

@@ -9,7 +9,7 @@ use Rattle.tape_volumes.specs.Outputs.{LacksMemory, PrintsNothing, PrintsWith, W
 use Rattle.tape.specs.Images.{DriveSight}
 use Rattle.tape.specs.WholeImages.{IsNotRead, IsReadWhole}
 
--- the job ended so on the image of that name before anything was printed, and that is told
+-- the job ended so on the image of that name before anything was printed, and a message says so
 abbrev pub FailsOn : Ending → (image : List ℕ) → (status : ℕ) → (old now : Written) → Type 0
 FailsOn e image status old now = (status ≡ ending_status e) × PrintsNothing old now × WritesEnding image e old.error now.error old.error_faults now.error_faults
 
@@ -26,7 +26,7 @@ WhyEnds refused image v m status old now =
     ((e : Ending) × IsNotRead refused e image v m × FailsOn e image status old now)
     ⊎ ((bytes : List ℕ) × IsReadWhole image bytes v m × TellsWhy bytes status old now)
 
--- The image of that name was read whole in an empty drive, and it was told why it can or cannot be listed and changed.
+-- The image of that name was read whole in an empty drive, and why it can or cannot be listed and changed was printed.
 pub record ImageIsExplained {M : Type 0} (drives : DriveSight M) (image : List ℕ) (status : ℕ) (old now : Written) : Type 0 where
   pub drive : M
   pub drive_now : M

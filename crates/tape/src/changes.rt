@@ -2,9 +2,10 @@
 ghost use Rattle.std.specs.Prelude.{◌≡◌, ◌≤◌, ◌<◌, ◌∷◌, [], true, IfOk, length, map};
 ghost use Rattle.std.specs.Vec.{vec_capacity};
 ghost use Rattle.tape.specs.Changes.{AdoptsVolume, ChangesBy, ImageIsChanged, PurgesFiles, RenamesFile, UpgradesVolume};
-ghost use Rattle.tape.specs.Changes.{new_name_spelt, purges, redo_step, said};
+ghost use Rattle.tape.specs.Changes.{purges, redo_step, said};
 ghost use Rattle.tape.specs.Images.{sight};
-ghost use Rattle.tape.specs.Lent.{UsesDrives};
+ghost use Rattle.tape.specs.Lent.{UsesDrives, both_names, one_if};
+ghost use Rattle.tape.specs.Names.{name_spelt, names_spelt, new_name_spelt};
 ghost use Rattle.tape_changes.specs.Changing.{AreFormed};
 ghost use Rattle.tape_volumes.specs.Changes.{IsFormedChange};
 ghost use Rattle.tape_volumes.specs.Outputs.{written};
@@ -151,7 +152,7 @@ pub fn purge_files<M: Medium + Drop, D: Drives<M>, K: Sink + Drop, E: Sink>(
     ensures purged { PurgesFiles (sight M.view M.refuses) image.now (map (λ text. text.now) texts.now) result.0
         (written (K.written out) (K.faults out) (E.written error.old) (E.faults error.old))
         (written (K.written result.1) (K.faults result.1) (E.written error.new) (E.faults error.new)) }
-    ensures drives { UsesDrives 1 (D.given drives.old) (D.given drives.new) (D.all_back drives.new) }
+    ensures drives { UsesDrives (one_if (names_spelt (map (λ text. text.now) texts.now))) (D.given drives.old) (D.given drives.new) (D.all_back drives.new) }
 {
     if texts.is_empty() {
         return (0, out);
@@ -185,14 +186,14 @@ pub fn rename_file<M: Medium + Drop, D: Drives<M>, K: Sink + Drop, E: Sink>(
     ensures renamed { RenamesFile (sight M.view M.refuses) image.now from.now to.now result.0
         (written (K.written out) (K.faults out) (E.written error.old) (E.faults error.old))
         (written (K.written result.1) (K.faults result.1) (E.written error.new) (E.faults error.new)) }
-    ensures drives { UsesDrives 1 (D.given drives.old) (D.given drives.new) (D.all_back drives.new) }
+    ensures drives { UsesDrives (one_if (both_names (name_spelt from.now) (new_name_spelt to.now))) (D.given drives.old) (D.given drives.new) (D.all_back drives.new) }
 {
     let Some(old) = name_spelt(from) else {
         return (refuse_name(error, from), out);
     };
     let Some(new) = new_name_spelt(to) else {
         let cause =
-            b"a file can be given a name of a letter, and then letters, digits and _, ten at most";
+            b"a file can be given a name of a capital letter, and then capital letters, digits and _, ten at most";
         return (refuse_text(error, to, cause), out);
     };
     let step = Step {

@@ -1,6 +1,7 @@
 ghost use Rattle.std.specs.Prelude.{◌≡◌, ◌≤◌, ◌+◌, true, [], IfOk, None, map};
 ghost use Rattle.tape.specs.Images.{sight};
-ghost use Rattle.tape.specs.Lent.{UsesDrives};
+ghost use Rattle.tape.specs.Lent.{UsesDrives, one_if};
+ghost use Rattle.tape.specs.Names.{names_spelt};
 ghost use Rattle.tape.specs.Copies.{CopiesFiles, FilesAreCopied};
 ghost use Rattle.tape_folder.specs.Paths.{IsFolderPath};
 
@@ -120,8 +121,8 @@ pub fn copy_files<
     requires back { D.all_back drives.old ≡ true }
     ensures copied { CopiesFiles (sight M.view M.refuses) F.view image.now path.now (map (λ text. text.now) texts.now) result
         (E.written error.old) (E.written error.new) (E.faults error.old) (E.faults error.new) }
-    ensures drives { UsesDrives 1 (D.given drives.old) (D.given drives.new) (D.all_back drives.new) }
-    ensures folders { G.given folders.new ≤ G.given folders.old + 1 }
+    ensures drives { UsesDrives (one_if (names_spelt (map (λ text. text.now) texts.now))) (D.given drives.old) (D.given drives.new) (D.all_back drives.new) }
+    ensures folders { G.given folders.new ≤ G.given folders.old + one_if (names_spelt (map (λ text. text.now) texts.now)) }
 {
     let names = match names_spelt(alloc, texts) {
         Ok(names) => names,

@@ -16,7 +16,8 @@ use std::alloc::{AllocError, Global};
 use tape_jobs::{Collected, Collecting, difference_text};
 use tape_volumes::{Ending, Went, end_on, no_memory, print};
 
-/// How many records can be written to a copy of an image in memory: enough to settle it, and to finish a packing.
+/// How many records can be written to a copy of an image in memory. That they are enough to settle it, and to finish a
+/// packing, is tested.
 const WRITES: usize = 16_384;
 
 /// A drive in memory over an image of that name with these bytes.

@@ -8,7 +8,7 @@ use system_files::{SystemFile, SystemImages};
 use tape_folder::SystemFolder;
 
 /// Drives over the files of the system. Each opens its image to change it, or only to read it if the image may not be
-/// changed.
+/// changed. A drive that is back is dropped, which closes its image.
 #[derive(Drop)]
 pub struct SystemDrives<R: Files> {
     files: R,

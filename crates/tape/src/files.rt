@@ -1,6 +1,6 @@
 ghost use Rattle.std.specs.Prelude.{true, ◌≡◌};
 ghost use Rattle.tape.specs.Images.{sight};
-ghost use Rattle.tape.specs.Lent.{UsesDrives};
+ghost use Rattle.tape.specs.Lent.{UsesDrives, one_if};
 ghost use Rattle.tape.specs.Files.{FileIsRead, ReadsNamedFile};
 ghost use Rattle.tape.specs.Names.{name_spelt};
 ghost use Rattle.tape_jobs.specs.Reading.{HasRoomForFile};
@@ -64,7 +64,7 @@ pub fn read_file<M: Medium + Drop, D: Drives<M>, K: Sink + Drop, E: Sink>(
     ensures read { ReadsNamedFile (sight M.view M.refuses) part image.now (name_spelt text.now) text.now result.0
         (written (K.written out) (K.faults out) (E.written error.old) (E.faults error.old))
         (written (K.written result.1) (K.faults result.1) (E.written error.new) (E.faults error.new)) }
-    ensures drives { UsesDrives 1 (D.given drives.old) (D.given drives.new) (D.all_back drives.new) }
+    ensures drives { UsesDrives (one_if (name_spelt text.now)) (D.given drives.old) (D.given drives.new) (D.all_back drives.new) }
 {
     let Some(file) = name_spelt(text) else {
         return (refuse_name(error, text), out);

@@ -1,5 +1,4 @@
-//! The program `tape`: lists images of tapes and discs, takes files out of them, changes them, and what else its user
-//! does with them every day.
+//! The program `tape`: lists images of tapes and discs, takes files out of them, compares, explains and changes them.
 #![tactic(auto)]
 
 mod changes;

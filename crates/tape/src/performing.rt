@@ -6,7 +6,7 @@ ghost use Rattle.tape_words.specs.Asked.{job_asked, arguments_in};
 ghost use Rattle.tape_volumes.specs.Messages.{WritesMessage, memory_line, unread_line};
 ghost use Rattle.tape_volumes.specs.Outputs.{written};
 ghost use Rattle.tape.specs.Lent.{UsesDrives, drives_for, folders_for, readers_for};
-ghost use Rattle.tape.specs.Performing.{Explains, PerformsAsked, asked_in};
+ghost use Rattle.tape.specs.Performing.{DoesAsked, Explains, PerformsAsked, wanted_in};
 ghost use Rattle.tape.specs.Shown.{map_style};
 
 use crate::changes::{adopt_volume, purge_files, rename_file, upgrade_volume};
@@ -96,7 +96,7 @@ fn do_job<
 ) -> (u8, K)
     requires drives { D.all_back drives.old ≡ true }
     requires readers { R.all_back readers.old ≡ true }
-    ensures done { PerformsAsked (sight M.view M.refuses) (sight N.view N.refuses)
+    ensures done { DoesAsked (sight M.view M.refuses) (sight N.view N.refuses)
         (sight ⟦<MemoryMedium as Medium>⟧.view ⟦<MemoryMedium as Medium>⟧.refuses)
         F.view (Some (job_asked job.entry)) result.0
         (written (K.written out) (K.faults out) (E.written error.old) (E.faults error.old))
@@ -185,7 +185,7 @@ fn perform_words<
 }
 
 /// The program over standard output and standard error, over the drives that it inserts images in, those that only read
-/// them, and the folders that it copies files into. `progress` is told which file is copied. It returns the exit status,
+/// them, and the folders that it copies files into. `progress` shows which file is copied. It returns the exit status,
 /// and standard output.
 pub fn perform<
     M: Medium + Drop,
@@ -218,9 +218,9 @@ pub fn perform<
         F.view (arguments_in (map string_bytes list.items)) result.0
         (written (K.written out) (K.faults out) (E.written error.old) (E.faults error.old))
         (written (K.written result.1) (K.faults result.1) (E.written error.new) (E.faults error.new))) }
-    ensures drives { UsesDrives (drives_for (asked_in words)) (D.given drives.old) (D.given drives.new) (D.all_back drives.new) }
-    ensures readers { UsesDrives (readers_for (asked_in words)) (R.given readers.old) (R.given readers.new) (R.all_back readers.new) }
-    ensures folders { G.given folders.new ≤ G.given folders.old + folders_for (asked_in words) }
+    ensures drives { UsesDrives (drives_for (wanted_in words)) (D.given drives.old) (D.given drives.new) (D.all_back drives.new) }
+    ensures readers { UsesDrives (readers_for (wanted_in words)) (R.given readers.old) (R.given readers.new) (R.all_back readers.new) }
+    ensures folders { G.given folders.new ≤ G.given folders.old + folders_for (wanted_in words) }
 {
     match words {
         Ok(words) => perform_words(

@@ -28,7 +28,7 @@ pub trait Drives<M: Medium> {
         ensures empty { (M.view result).record_count ≡ 0 }
         ensures given { given self.new ≤ given self.old + 1 };
 
-    /// Takes a drive back, and closes the image that is in it.
+    /// Takes a drive back.
     fn back(&mut self, drive: M)
         ensures given { given self.new ≤ given self.old }
         ensures back { all_back self.new ≡ true };

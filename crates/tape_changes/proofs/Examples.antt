@@ -17,7 +17,7 @@ use Rattle.tape_volumes.specs.declared.went.Went.TheVariants as went
 use Rattle.tape_volumes.specs.Volumes.{CommandDid, Mounted, OwnsGate, volume_seen}
 use Rattle.tape_changes.specs.declared.changing.Step.{Step}
 use Rattle.tape_changes.specs.declared.changing.Next.TheVariants as next
-use Rattle.tape_changes.specs.Changing.{ChangesDid, FrontIsLeft, Output, StepsTaken, after, is_made}
+use Rattle.tape_changes.specs.Changing.{ChangesDid, FrontIsLeft, Output, StepsTaken, after, was_made}
 
 -- a step that purges the file of that name
 abbrev purge_of : Name → Step → Step
@@ -41,7 +41,7 @@ not_left_out a b s t old now (next.Ends, u, told, taken, follows) = taken.tells
 not_left_out a b s t old now (next.LosesOutput, u, told, taken, follows) = let no : false ≡ true = follows.1 in cc
 
 -- if standard output did not fail and all replies are ok, each step has one
-all_replied : (early : Bool) (steps : List Step) (replies : List Reply) (s t : Mounted) (old now : Output) → StepsTaken early steps replies false s t old now → list_all is_made replies ≡ true
+all_replied : (early : Bool) (steps : List Step) (replies : List Reply) (s t : Mounted) (old now : Output) → StepsTaken early steps replies false s t old now → list_all was_made replies ≡ true
     → length replies ≡ length steps
 all_replied early [] [] s t old now taken made = refl
 all_replied early [] (r ∷ replies) s t old now taken made = absurd taken

@@ -14,15 +14,18 @@ use Rattle.tape_changes.specs.declared.changing.Step.{Step}
 
 -- what an error of the volume means for a change, and what to do about it
 abbrev pub change_advice : Change → Code → List ℕ
-change_advice c code.NotLif = codes ": it has no LIF volume that can be read; 'tape why IMAGE' tells why"
+change_advice c code.NotLif = codes ": the image has no LIF volume that can be read; 'tape why IMAGE' tells why"
 change_advice c code.NoFile = codes ": there is no file of that name"
-change_advice change.Adopt code.Exists = codes ": a file of another program has the name REDOFILE"
+change_advice change.Adopt code.Exists = codes ": there is a file REDOFILE, which is no redo file at its place"
+change_advice (change.Rename old new) code.Exists = codes ": there is a file of the new name already"
 change_advice c code.Exists = codes ": there is a file of that name already"
-change_advice c code.NoSlot = codes ": its directory has no free slot"
-change_advice (change.Format label slots) code.NoRoom = codes ": it has no room for so many slots"
-change_advice c code.NoRoom = codes ": no free place on it is large enough"
-change_advice c code.NoRedo = codes ": it has no redo file; 'tape adopt IMAGE' makes one"
+change_advice c code.NoSlot = codes ": the directory has no free slot"
+change_advice (change.Format label slots) code.NoRoom = codes ": the medium has no room for that many slots"
+change_advice c code.NoRoom = codes ": no free place is large enough"
+change_advice c code.NoRedo = codes ": the volume has no redo file; 'tape adopt IMAGE' makes one"
+change_advice change.Upgrade code.InUse = codes ": a file or the directory lies in the records that the redo file needs"
 change_advice c code.InUse = codes ": a file lies in the records that the redo file needs"
+change_advice (change.Rename old new) code.Protected = codes ": REDOFILE is the name of the redo file"
 change_advice c code.Protected = codes ": it is the redo file"
 change_advice c code.NeedsUpgrade = codes ": run 'tape upgrade IMAGE' first; that takes 30 records"
 change_advice c code = []
@@ -34,7 +37,7 @@ step_message image step (Some (reply.No code)) = told_line (of_image image step.
 step_message image step (Some r) = told_line (of_image image step.subject.now) (cause_of (ending.Went went.Fault)) []
 step_message image step None = told_line (of_image image step.subject.now) (codes "it was not tried") []
 
--- one for each step whose change was not made; the steps without a reply are the last ones
+-- one for each step whose change is not known to be made; the steps without a reply are the last ones
 abbrev pub step_messages : (image : List ℕ) → List Step → List Reply → List ℕ
 step_messages image [] replies = []
 step_messages image (step ∷ steps) [] = step_message image step None ++ step_messages image steps []
@@ -49,7 +52,7 @@ is_by_steps e = false
 abbrev pub image_message : (image : List ℕ) → Ending → List ℕ
 image_message image e = if is_by_steps e then [] else ending_message image e
 
--- the steps have messages: the image was opened, and their changes were made or refused
+-- the steps have messages: the image was opened
 abbrev pub tells_steps : Ending → Bool
 tells_steps (ending.Went went.Done) = true
 tells_steps (ending.Went went.NotAll) = true

@@ -20,9 +20,9 @@ use Rattle.tape_changes.specs.declared.changing.Next.{Next}
 use Rattle.tape_changes.specs.declared.changing.Next.TheVariants as next
 
 -- the change of a step was made
-abbrev pub is_made : Reply → Bool
-is_made reply.Ok = true
-is_made r = false
+abbrev pub was_made : Reply → Bool
+was_made reply.Ok = true
+was_made r = false
 
 -- What the job does after a step, by the reply to its change. If the change was made, the line of the step is written to
 -- standard output; the job ends if that fails. It ends after a fault, and, if it ends early, after a refusal.
@@ -38,8 +38,8 @@ pub record Output : Type 0 where
   pub text : Option (List ℕ)
   pub faults : ℕ
 
-abbrev pub output : Option (List ℕ) → ℕ → Output
-output text faults = record { text = text; faults = faults }
+abbrev pub output_of : Option (List ℕ) → ℕ → Output
+output_of text faults = record { text = text; faults = faults }
 
 -- A step was taken, with this reply to its change, and then this is next.
 pub record StepTaken (early : Bool) (step : Step) (r : Reply) (n : Next) (s t : Mounted) (old now : Output) : Type 0 where
@@ -53,8 +53,8 @@ Follows next.GoesOn rest replies lost s t old now = rest
 Follows next.Ends rest replies lost s t old now = (replies ≡ []) × (lost ≡ false) × (t ≡ s) × (now ≡ old)
 Follows next.LosesOutput rest replies lost s t old now = (replies ≡ []) × (lost ≡ true) × (t ≡ s) × (now ≡ old)
 
--- Steps were taken one after the other, with these replies. The job ends with the step after which it does not go on,
--- and that is the last with a reply.
+-- Steps were taken one after the other, with these replies. The last step with a reply is the first one after which the
+-- job does not go on.
 abbrev pub StepsTaken : (early : Bool) → List Step → List Reply → (lost : Bool) → (s t : Mounted) (old now : Output) → Type 0
 StepsTaken early [] [] lost s t old now = (lost ≡ false) × (t ≡ s) × (now ≡ old)
 StepsTaken early (step ∷ steps) (r ∷ replies) lost s t old now =
@@ -64,7 +64,7 @@ StepsTaken early steps replies lost s t old now = ⊥
 
 -- how the job went: standard output failed; or all changes were made; or one was not
 abbrev pub changes_went : (lost : Bool) → List Reply → Went
-changes_went lost replies = if lost then went.Unwritten else (if list_all is_made replies then went.Done else went.NotAll)
+changes_went lost replies = if lost then went.Unwritten else (if list_all was_made replies then went.Done else went.NotAll)
 
 -- the commands of these steps
 abbrev pub commands_of : List Step → List VolumeCommand

@@ -1,6 +1,6 @@
 //! What a job that changes an image writes on standard error.
 ghost use Rattle.std.specs.Prelude.{◌≡◌, OnOk};
-ghost use Rattle.std.specs.Io.KnownBytes.{Appends};
+ghost use Rattle.il_ports.specs.Writing.{WritesAll};
 ghost use Rattle.lif_model.specs.Causes.{HasCause};
 ghost use Rattle.tape_changes.specs.ChangeMessages.{change_advice, change_messages, step_message, step_messages};
 ghost use Rattle.tape_volumes.specs.Endings.{of_image, told_line};
@@ -16,15 +16,22 @@ fn change_advice(change: &Change<'_>, code: Code) -> &'static [u8]
     ensures { result.now ≡ change_advice change.now code }
 {
     match (change, code) {
-        (_, Code::NotLif) => b": it has no LIF volume that can be read; 'tape why IMAGE' tells why",
+        (_, Code::NotLif) =>
+            b": the image has no LIF volume that can be read; 'tape why IMAGE' tells why",
         (_, Code::NoFile) => b": there is no file of that name",
-        (Change::Adopt, Code::Exists) => b": a file of another program has the name REDOFILE",
+        (Change::Adopt, Code::Exists) =>
+            b": there is a file REDOFILE, which is no redo file at its place",
+        (Change::Rename { .. }, Code::Exists) => b": there is a file of the new name already",
         (_, Code::Exists) => b": there is a file of that name already",
-        (_, Code::NoSlot) => b": its directory has no free slot",
-        (Change::Format { .. }, Code::NoRoom) => b": it has no room for so many slots",
-        (_, Code::NoRoom) => b": no free place on it is large enough",
-        (_, Code::NoRedo) => b": it has no redo file; 'tape adopt IMAGE' makes one",
+        (_, Code::NoSlot) => b": the directory has no free slot",
+        (Change::Format { .. }, Code::NoRoom) => b": the medium has no room for that many slots",
+        (_, Code::NoRoom) => b": no free place is large enough",
+        (_, Code::NoRedo) => b": the volume has no redo file; 'tape adopt IMAGE' makes one",
+        (Change::Upgrade, Code::InUse) => {
+            b": a file or the directory lies in the records that the redo file needs"
+        }
         (_, Code::InUse) => b": a file lies in the records that the redo file needs",
+        (Change::Rename { .. }, Code::Protected) => b": REDOFILE is the name of the redo file",
         (_, Code::Protected) => b": it is the redo file",
         (_, Code::NeedsUpgrade) => b": run 'tape upgrade IMAGE' first; that takes 30 records",
         _ => b"",
@@ -39,8 +46,8 @@ fn write_told_of<K: Sink>(
     cause: &[u8],
     advice: &[u8],
 ) -> Result<(), Failed>
-    ensures parts { OnOk result (Appends (K.written to.old) (K.written to.new)
-        (told_line (of_image image.now step.now.subject.now) cause.now advice.now)) }
+    ensures parts { WritesAll (K.written to.old) (K.written to.new)
+        (told_line (of_image image.now step.now.subject.now) cause.now advice.now) result }
     ensures cause { HasCause (K.faults to.old) (K.faults to.new) result }
 {
     write_parts(
@@ -65,8 +72,8 @@ fn write_step<K: Sink>(
     step: &Step<'_>,
     reply: Option<Reply>,
 ) -> Result<(), Failed>
-    ensures parts { OnOk result
-        (Appends (K.written to.old) (K.written to.new) (step_message image.now step.now reply)) }
+    ensures parts { WritesAll (K.written to.old) (K.written to.new)
+        (step_message image.now step.now reply) result }
     ensures cause { HasCause (K.faults to.old) (K.faults to.new) result }
 {
     match reply {
@@ -96,8 +103,8 @@ fn write_steps<K: Sink>(
     steps: &[Step<'_>],
     replies: &[Reply],
 ) -> Result<(), Failed>
-    ensures parts { OnOk result (Appends (K.written to.old) (K.written to.new)
-        (step_messages image.now steps.now replies.now)) }
+    ensures parts { WritesAll (K.written to.old) (K.written to.new)
+        (step_messages image.now steps.now replies.now) result }
     ensures cause { HasCause (K.faults to.old) (K.faults to.new) result }
 {
     'steps: for place in 0..steps.len() {
@@ -114,8 +121,8 @@ fn write_all_of<K: Sink>(
     steps: &[Step<'_>],
     replies: &[Reply],
 ) -> Result<(), Failed>
-    ensures parts { OnOk result (Appends (K.written to.old) (K.written to.new)
-        (change_messages image.now ending steps.now replies.now)) }
+    ensures parts { WritesAll (K.written to.old) (K.written to.new)
+        (change_messages image.now ending steps.now replies.now) result }
     ensures cause { HasCause (K.faults to.old) (K.faults to.new) result }
 {
     match ending {

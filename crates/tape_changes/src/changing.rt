@@ -3,7 +3,7 @@ ghost use Rattle.std.specs.Prelude.{◌≡◌, ◌<◌, ◌≤◌, [], length};
 ghost use Rattle.std.specs.List.{list_all};
 ghost use Rattle.std.specs.Vec.{vec_capacity};
 ghost use Rattle.tape_changes.specs.Changing.{AreFormed, ChangesDid, FrontIsLeft, NextBy, StepsTaken};
-ghost use Rattle.tape_changes.specs.Changing.{commands_of, is_made, output};
+ghost use Rattle.tape_changes.specs.Changing.{commands_of, was_made, output_of};
 ghost use Rattle.tape_volumes.specs.Volumes.{StaysBeside};
 
 use il_ports::{Sink, write_all};
@@ -50,7 +50,7 @@ fn next_by<K: Sink>(reply: Reply, ends_early: bool, line: &[u8], out: &mut K) ->
 
 /// Whether all changes were made.
 fn all_made(replies: &[Reply]) -> bool
-    ensures { result ≡ list_all is_made replies.now }
+    ensures { result ≡ list_all was_made replies.now }
 {
     'replies: for reply in replies {
         if *reply != Reply::Ok {
@@ -76,7 +76,7 @@ fn take_steps<V: Volumes, K: Sink>(
     ensures valid { (V.seen volumes.new).valid }
     ensures taken { StepsTaken ends_early steps.now replies.new.items result
         (V.seen volumes.old).mounted (V.seen volumes.new).mounted
-        (output (K.written out.old) (K.faults out.old)) (output (K.written out.new) (K.faults out.new)) }
+        (output_of (K.written out.old) (K.faults out.old)) (output_of (K.written out.new) (K.faults out.new)) }
     ensures beside { StaysBeside (FrontIsLeft (commands_of steps.now) (V.seen volumes.old).mounted)
         (V.seen volumes.old) (V.seen volumes.new) }
 {
@@ -108,7 +108,7 @@ fn make_changes<V: Volumes, K: Sink>(
     ensures valid { (V.seen volumes.new).valid }
     ensures did { ChangesDid ends_early steps.now result replies.new.items
         (V.seen volumes.old).mounted (V.seen volumes.new).mounted
-        (output (K.written out.old) (K.faults out.old)) (output (K.written out.new) (K.faults out.new)) }
+        (output_of (K.written out.old) (K.faults out.old)) (output_of (K.written out.new) (K.faults out.new)) }
     ensures beside { StaysBeside (FrontIsLeft (commands_of steps.now) (V.seen volumes.old).mounted)
         (V.seen volumes.old) (V.seen volumes.new) }
 {
@@ -138,13 +138,13 @@ pub struct Changing<'a, K: Drop> {
 impl<'a, K: Sink + Drop> VolumeJob for Changing<'a, K> {
     ghost use Rattle.std.specs.Prelude.{◌≡◌, ◌<◌, ◌≤◌, [], length};
     ghost use Rattle.std.specs.Vec.{vec_capacity};
-    ghost use Rattle.tape_changes.specs.Changing.{AreFormed, ChangesDid, FrontIsLeft, commands_of, output};
+    ghost use Rattle.tape_changes.specs.Changing.{AreFormed, ChangesDid, FrontIsLeft, commands_of, output_of};
 
     ghost asks = { λ job. AreFormed job.steps.now × (0 < length job.steps.now) × (job.replies.items ≡ [])
         × (length job.steps.now ≤ vec_capacity job.replies) };
 
     ghost does = { λ old new went s t. ChangesDid old.ends_early old.steps.now went new.replies.items s t
-        (output (K.written old.out) (K.faults old.out)) (output (K.written new.out) (K.faults new.out)) };
+        (output_of (K.written old.out) (K.faults old.out)) (output_of (K.written new.out) (K.faults new.out)) };
 
     ghost leaves = { λ job s x. FrontIsLeft (commands_of job.steps.now) s x };
 

@@ -96,7 +96,7 @@ pub record PartIsUsed (name bytes : List ℕ) (v w : FolderView) (answer : Kept)
   pub text_is : ShowsFiles v → v.written ≡ Some [] → text ≡ Some bytes
   pub ends : PartEnds name text v w answer
 
--- the files by the answer, if contracts can see them
+-- the files after each answer, if contracts can see them
 abbrev pub KeptIs : List ℕ → List ℕ → FolderView → FolderView → Kept → Type 0
 KeptIs name bytes v w kept.Written = ShowsFiles v → IsUnusedName name v × (file_in_folder name w.files ≡ Some bytes)
 KeptIs name bytes v w kept.WasThere = ShowsFiles v → (file_in_folder name v.files ≡ Some bytes) × (file_in_folder name w.files ≡ Some bytes)

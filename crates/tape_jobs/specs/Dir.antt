@@ -16,7 +16,7 @@ use Rattle.tape_text.specs.Rows.{rows_of, rows_text}
 use Rattle.tape_text.specs.Free.{free_text}
 use Rattle.tape_text.specs.Map.{map_text}
 use Rattle.tape_text.specs.Picture.{picture_text}
-use Rattle.tape_text.specs.Pages.{text_room}
+use Rattle.tape_text.specs.Pages.{page_room}
 use Rattle.tape_volumes.specs.Volumes.{Mounted, CommandDid, DoneOrNot, volume_shown}
 use Rattle.tape_volumes.specs.Outputs.{WritesNothing}
 use Rattle.tape_jobs.specs.declared.listing.Style.{Style}
@@ -38,11 +38,11 @@ volume_text style all n v = styled_text style all n (header_of v.header) (map sl
 
 -- the pages of a text have room for it; rows of CSV use no pages
 abbrev pub HasRoomFor : Style → (n room : ℕ) → Type 0
-HasRoomFor (style.Columns heading) n room = length (heading_of (option_map (λ name. name.now) heading)) + text_room n ≤ room
+HasRoomFor (style.Columns heading) n room = length (heading_of (option_map (λ name. name.now) heading)) + page_room n ≤ room
 HasRoomFor (style.Rows image) n room = Unit {0}
-HasRoomFor style.Free n room = text_room n ≤ room
-HasRoomFor style.Map n room = text_room n ≤ room
-HasRoomFor style.Picture n room = text_room n ≤ room
+HasRoomFor style.Free n room = page_room n ≤ room
+HasRoomFor style.Map n room = page_room n ≤ room
+HasRoomFor style.Picture n room = page_room n ≤ room
 
 -- rows of CSV take memory while they are written; each other text has all its memory before
 abbrev pub takes_memory : Style → Bool

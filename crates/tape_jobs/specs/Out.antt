@@ -154,7 +154,7 @@ pub record FolderGains (makes : List ℕ → Option (List ℕ) → Type 0) (f g 
 abbrev pub WasUnableSince : FolderView → FolderView → Type 0
 WasUnableSince f g = Rose f.failures g.failures ⊎ (Rose f.unremoved g.unremoved ⊎ AreTaken part_numbers f)
 
--- this many files were not written: so many calls failed, or more; or the numbers of part files are taken
+-- this many files were not written: that many calls failed, or more; or the numbers of part files are taken
 abbrev pub WereUnable : ℕ → FolderView → FolderView → Type 0
 WereUnable count f g = RoseBy count f.failures g.failures ⊎ (Rose f.unremoved g.unremoved ⊎ AreTaken part_numbers f)
 

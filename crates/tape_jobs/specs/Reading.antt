@@ -1,5 +1,5 @@
 -- What the jobs `get` and `raw` do, which read one file.
-use Rattle.std.specs.Prelude.{◌≡◌, ◌≤◌, ◌==◌, ◌/◌, ℕ, [], List, length, take, Option, Some, None, option_map, if◌then◌else◌}
+use Rattle.std.specs.Prelude.{◌≡◌, ◌≢◌, ◌≤◌, ◌==◌, ◌/◌, ℕ, [], List, length, take, Option, Some, None, option_map, if◌then◌else◌}
 use Rattle.lif_model.specs.Apply.{Fetch}
 use Rattle.lif_model.specs.Shelf.{largest_image}
 use Rattle.lif_model.specs.Volume.{Volume}
@@ -40,7 +40,7 @@ without part.Bytes = went.NoSize
 
 -- The part of the file was written: all of it; or a front of it, and then standard output failed. Or the file has no such part.
 abbrev pub WritesFilePart : Went → Part → Option (List ℕ) → (before now : Option (List ℕ)) (faults faults_now : ℕ) → Type 0
-WritesFilePart w p (Some text) before now faults faults_now = WritesText w text before now faults faults_now
+WritesFilePart w p (Some text) before now faults faults_now = (w ≢ went.OutOfMemory) × WritesText w text before now faults faults_now
 WritesFilePart w p None before now faults faults_now = (w ≡ without p) × WritesNothing before now faults faults_now
 
 -- the job went so by the reply to the command that reads the file

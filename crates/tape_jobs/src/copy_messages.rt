@@ -1,6 +1,6 @@
 //! What the job `out` writes on standard error.
 ghost use Rattle.std.specs.Prelude.{◌≡◌, ◌≤◌, OnOk};
-ghost use Rattle.std.specs.Io.KnownBytes.{Appends};
+ghost use Rattle.il_ports.specs.Writing.{WritesAll};
 ghost use Rattle.std.specs.List.{flat_map};
 ghost use Rattle.lif_model.specs.Causes.{HasCause};
 ghost use Rattle.tape_jobs.specs.CopyMessages.{copy_message, copy_messages, end_advice, end_cause, end_message, ending_by};
@@ -20,8 +20,8 @@ fn write_copy_ending<K: Sink>(
     path: &str,
     ending: Ending,
 ) -> Result<(), Failed>
-    ensures parts { OnOk result
-        (Appends (K.written to.old) (K.written to.new) (copy_message image.now path.now ending)) }
+    ensures parts { WritesAll (K.written to.old) (K.written to.new)
+        (copy_message image.now path.now ending) result }
     ensures cause { HasCause (K.faults to.old) (K.faults to.new) result }
 {
     match ending {
@@ -68,7 +68,8 @@ fn end_advice(end: FileEnd, ending: &Ending) -> &[u8]
 fn write_end<K: Sink>(to: &mut K, image: &str, taken: Taken, line: &mut Page) -> Result<(), Failed>
     requires room { 30 ≤ line.old.room }
     ensures room { line.new.room ≡ line.old.room }
-    ensures parts { OnOk result (Appends (K.written to.old) (K.written to.new) (end_message image.now taken)) }
+    ensures parts { WritesAll (K.written to.old) (K.written to.new)
+        (end_message image.now taken) result }
     ensures cause { HasCause (K.faults to.old) (K.faults to.new) result }
 {
     if taken.end.is_copied() {
@@ -100,8 +101,8 @@ fn write_ends<K: Sink>(
     line: &mut Page,
 ) -> Result<(), Failed>
     requires room { 30 ≤ line.old.room }
-    ensures parts { OnOk result
-        (Appends (K.written to.old) (K.written to.new) (flat_map (end_message image.now) ends.now)) }
+    ensures parts { WritesAll (K.written to.old) (K.written to.new)
+        (flat_map (end_message image.now) ends.now) result }
     ensures cause { HasCause (K.faults to.old) (K.faults to.new) result }
 {
     'ends: for taken in ends {
@@ -121,8 +122,8 @@ fn write_all_of<K: Sink>(
     line: &mut Page,
 ) -> Result<(), Failed>
     requires room { 30 ≤ line.old.room }
-    ensures parts { OnOk result
-        (Appends (K.written to.old) (K.written to.new) (copy_messages image.now path.now ending ends.now)) }
+    ensures parts { WritesAll (K.written to.old) (K.written to.new)
+        (copy_messages image.now path.now ending ends.now) result }
     ensures cause { HasCause (K.faults to.old) (K.faults to.new) result }
 {
     write_copy_ending(to, image, path, ending)?;

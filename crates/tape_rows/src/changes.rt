@@ -179,7 +179,7 @@ fn a_refusal_has_its_advice(rt: HostRuntime) -> Result<(), Fail> {
         (
             store,
             Code::NotLif,
-            b"error 3 NotLif: it has no LIF volume that can be read; 'tape why IMAGE' tells why",
+            b"error 3 NotLif: the image has no LIF volume that can be read; 'tape why IMAGE' tells why",
         ),
         (
             store,
@@ -189,27 +189,27 @@ fn a_refusal_has_its_advice(rt: HostRuntime) -> Result<(), Fail> {
         (
             Change::Adopt,
             Code::Exists,
-            b"error 5 Exists: a file of another program has the name REDOFILE",
+            b"error 5 Exists: there is a file REDOFILE, which is no redo file at its place",
         ),
         (
             store,
             Code::NoSlot,
-            b"error 6 NoSlot: its directory has no free slot",
+            b"error 6 NoSlot: the directory has no free slot",
         ),
         (
             store,
             Code::NoRoom,
-            b"error 7 NoRoom: no free place on it is large enough",
+            b"error 7 NoRoom: no free place is large enough",
         ),
         (
             format,
             Code::NoRoom,
-            b"error 7 NoRoom: it has no room for so many slots",
+            b"error 7 NoRoom: the medium has no room for that many slots",
         ),
         (
             store,
             Code::NoRedo,
-            b"error 8 NoRedo: it has no redo file; 'tape adopt IMAGE' makes one",
+            b"error 8 NoRedo: the volume has no redo file; 'tape adopt IMAGE' makes one",
         ),
         (
             Change::Adopt,
@@ -219,7 +219,7 @@ fn a_refusal_has_its_advice(rt: HostRuntime) -> Result<(), Fail> {
         (
             Change::Rename { old, new },
             Code::Protected,
-            b"error 11 Protected: it is the redo file",
+            b"error 11 Protected: REDOFILE is the name of the redo file",
         ),
         (
             store,

@@ -9,15 +9,19 @@ Does one job with image files of HP-IL tapes and discs
 Usage: tape JOB [ARGUMENTS]
 
 Jobs:
-  dir   Lists the files of each IMAGE
-  out   Copies files from IMAGE into FOLDER
-  get   Prints the lines of a text file
-  raw   Writes the bytes of a file, as many as its directory entry tells
-  free  Prints how much room IMAGE has
-  map   Prints a picture of the records of IMAGE
-  why   Prints why IMAGE can or cannot be listed and changed
-  diff  Compares the files of IMAGE with those of OTHER
-  help  Explains a job, or lists all jobs
+  dir      Lists the files of each IMAGE
+  out      Copies files from IMAGE into FOLDER
+  get      Prints the lines of a text file
+  raw      Writes the bytes of a file, as many as its directory entry tells
+  free     Prints how much room IMAGE has
+  map      Prints a picture of the records of IMAGE
+  why      Prints why IMAGE can or cannot be listed and changed
+  diff     Compares the files of IMAGE with those of OTHER
+  purge    Purges files of IMAGE
+  rename   Gives a file of IMAGE another name
+  adopt    Gives a volume of another program its redo file
+  upgrade  Makes the redo file large, so that files can be replaced
+  help     Explains a job, or lists all jobs
 
 Options:
       --help     Print this page
@@ -130,6 +134,57 @@ Options:
       --help  Print this page
 ";
 
+const PURGE: &str = "\
+Purges files of IMAGE
+
+Usage: tape purge IMAGE NAME...
+
+Arguments:
+  [IMAGE]    The image file
+  [NAME]...  The name of a file; %HH is the byte HH hex
+
+Options:
+      --help  Print this page
+";
+
+const RENAME: &str = "\
+Gives a file of IMAGE another name
+
+Usage: tape rename IMAGE OLD NEW
+
+Arguments:
+  [IMAGE]  The image file
+  [OLD]    The name of a file; %HH is the byte HH hex
+  [NEW]    Its new name: a capital letter, then capital letters, digits and _
+
+Options:
+      --help  Print this page
+";
+
+const ADOPT: &str = "\
+Gives a volume of another program its redo file
+
+Usage: tape adopt IMAGE
+
+Arguments:
+  [IMAGE]  The image file
+
+Options:
+      --help  Print this page
+";
+
+const UPGRADE: &str = "\
+Makes the redo file large, so that files can be replaced
+
+Usage: tape upgrade IMAGE
+
+Arguments:
+  [IMAGE]  The image file
+
+Options:
+      --help  Print this page
+";
+
 const HELP: &str = "\
 Explains a job, or lists all jobs
 
@@ -154,6 +209,10 @@ fn each_page_is_printed(rt: HostRuntime) -> Result<(), Fail> {
         (Some(Topic::Map), MAP),
         (Some(Topic::Why), WHY),
         (Some(Topic::Diff), DIFF),
+        (Some(Topic::Purge), PURGE),
+        (Some(Topic::Rename), RENAME),
+        (Some(Topic::Adopt), ADOPT),
+        (Some(Topic::Upgrade), UPGRADE),
         (Some(Topic::Help), HELP),
     ] {
         let text = help_text(rt.alloc(), topic)?;

@@ -121,8 +121,36 @@ fn arguments_ask_of_images(rt: HostRuntime) -> Result<(), Fail> {
     Ok(())
 }
 
+#[test]
+fn arguments_ask_for_changes(rt: HostRuntime) -> Result<(), Fail> {
+    let (image, old, new) = ("TAPE", "A", "B");
+    let wanted = [
+        (
+            "purge TAPE A B",
+            Job::Purge {
+                image,
+                names: &["A", "B"],
+            },
+        ),
+        (
+            "purge -- TAPE --help",
+            Job::Purge {
+                image,
+                names: &["--help"],
+            },
+        ),
+        ("rename TAPE A B", Job::Rename { image, old, new }),
+        ("adopt TAPE", Job::Adopt { image }),
+        ("upgrade TAPE", Job::Upgrade { image }),
+    ];
+    for (text, job) in wanted {
+        assert!(rt; asks(rt.alloc(), text, job)?, "{text}");
+    }
+    Ok(())
+}
+
 /// Arguments, and the job that they ask to explain.
-const HELPS: [(&str, Option<Topic>); 20] = [
+const HELPS: [(&str, Option<Topic>); 23] = [
     ("help", None),
     ("--help", None),
     ("--help --version", None),
@@ -141,6 +169,9 @@ const HELPS: [(&str, Option<Topic>); 20] = [
     ("map --svg --help", Some(Topic::Map)),
     ("why --help", Some(Topic::Why)),
     ("help diff", Some(Topic::Diff)),
+    ("purge TAPE --help", Some(Topic::Purge)),
+    ("help rename", Some(Topic::Rename)),
+    ("adopt --help", Some(Topic::Adopt)),
     ("help help", Some(Topic::Help)),
     ("help --help dir", Some(Topic::Help)),
 ];
@@ -175,7 +206,7 @@ fn refusal(alloc: Global, words: &[String]) -> Result<Option<String>, AllocError
 }
 
 /// Arguments that are refused, and how the message begins.
-const REFUSED: [(&str, &str); 34] = [
+const REFUSED: [(&str, &str); 38] = [
     (
         "",
         "Does one job with image files of HP-IL tapes and discs\n",
@@ -224,6 +255,19 @@ const REFUSED: [(&str, &str); 34] = [
         "diff TAPE",
         "tape: diff needs IMAGE and OTHER; 'tape help diff' explains it\n",
     ),
+    (
+        "purge TAPE",
+        "tape: purge needs IMAGE and at least one NAME; 'tape help purge' explains it\n",
+    ),
+    (
+        "rename TAPE A",
+        "tape: rename needs IMAGE, OLD and NEW; 'tape help rename' explains it\n",
+    ),
+    (
+        "adopt",
+        "tape: adopt needs IMAGE; 'tape help adopt' explains it\n",
+    ),
+    ("upgrade TAPE B", "tape: unexpected argument 'B' found\n"),
     ("why TAPE B", "tape: unexpected argument 'B' found\n"),
     (
         "free --svg TAPE",

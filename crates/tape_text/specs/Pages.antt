@@ -3,5 +3,5 @@ use Rattle.std.specs.Prelude.{◌+◌, ◌*◌, ℕ}
 
 -- The room of a text for a medium of n records, in bytes, without a heading: it is enough for a listing, for what is
 -- free, for a map and for a picture, if the directory has at most 8 * n slots.
-abbrev pub text_room : ℕ → ℕ
-text_room n = 820 + 1920 * n
+abbrev pub page_room : ℕ → ℕ
+page_room n = 820 + 1920 * n

@@ -3,7 +3,7 @@ ghost use Rattle.std.specs.Prelude.{◌≡◌, ◌≤◌, ◌+◌, ◌*◌, ◌+
 ghost use Rattle.tape_text.specs.Free.{free_text};
 ghost use Rattle.tape_text.specs.Listing.{heading_of, listing_of};
 ghost use Rattle.tape_text.specs.Map.{map_text};
-ghost use Rattle.tape_text.specs.Pages.{text_room};
+ghost use Rattle.tape_text.specs.Pages.{page_room};
 ghost use Rattle.tape_text.specs.Picture.{picture_text};
 
 use crate::cells::WIDEST;
@@ -52,7 +52,7 @@ impl Pages {
     /// want of memory.
     pub fn new(alloc: Global, heading: Option<&str>, size: u16) -> Result<Pages, AllocError>
         ensures { IfOk result (λ pages. pages
-            ≡ length (heading_of (option_map (λ name. name.now) heading.entry)) + text_room size) }
+            ≡ length (heading_of (option_map (λ name. name.now) heading.entry)) + page_room size) }
     {
         let room = heading_size(heading) + LEAST + RECORD * usize::from(size);
         Ok(Pages {
@@ -73,7 +73,7 @@ impl Pages {
         slots: &SlotTable,
     ) -> Page
         requires few { length slots.now.slots ≤ 8 * size }
-        requires room { length (heading_of (option_map (λ name. name.now) heading)) + text_room size ≤ self }
+        requires room { length (heading_of (option_map (λ name. name.now) heading)) + page_room size ≤ self }
         ensures { result.text ≡
             heading_of (option_map (λ name. name.now) heading.entry) ++ listing_of all size header.now slots.now.slots }
     {
@@ -87,7 +87,7 @@ impl Pages {
     /// Returns the text of what is free of a volume on a medium of `size` records: the volume's line, and a line that
     /// says which file can be added.
     pub fn free_text(self, size: u16, header: &Header, slots: &SlotTable) -> Page
-        requires room { text_room size ≤ self }
+        requires room { page_room size ≤ self }
         ensures { result.text ≡ free_text size header.now slots.now.slots }
     {
         let mut page = self.page;
@@ -99,7 +99,7 @@ impl Pages {
     /// file without the redo file, and what the other characters mean.
     pub fn map_text(self, size: u16, header: &Header, slots: &SlotTable) -> Page
         requires few { length slots.now.slots ≤ 8 * size }
-        requires room { text_room size ≤ self }
+        requires room { page_room size ≤ self }
         ensures { result.text ≡ map_text size header.now slots.now.slots }
     {
         let mut page = self.page;
@@ -111,7 +111,7 @@ impl Pages {
     /// Returns the picture of a medium of `size` records as an SVG file: a square for each record, in rows of 64, with
     /// its number and what it belongs to as its title.
     pub fn picture_text(self, size: u16, header: &Header, slots: &SlotTable) -> Page
-        requires room { text_room size ≤ self }
+        requires room { page_room size ≤ self }
         ensures { result.text ≡ picture_text size header.now slots.now.slots }
     {
         let mut page = self.page;

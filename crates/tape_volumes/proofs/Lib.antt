@@ -1,1 +1,2 @@
 mod Said
+pub mod Fronts

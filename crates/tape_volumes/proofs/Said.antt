@@ -1,7 +1,7 @@
 -- The message of a job was written.
 use Rattle.std.proofs.Common.{◌≡◌, ◌∙◌, ◌++◌, inl, inr, ℕ, false, List, [], Option, sym, ap, subst, append_assoc, append-nil, codes}
-use Rattle.std.specs.Prelude.{Result, Ok, Err, OnOk}
-use Rattle.std.specs.Io.KnownBytes.{Appends}
+use Rattle.std.specs.Prelude.{Result, Ok, Err}
+use Rattle.il_ports.specs.Writing.{WritesAll}
 use Rattle.lif_model.specs.Causes.{HasCause}
 use Rattle.tape_volumes.specs.declared.went.Went.TheVariants as went
 use Rattle.tape_volumes.specs.declared.ending.Ending.{Ending}
@@ -10,10 +10,10 @@ use Rattle.tape_volumes.specs.Endings.{ending_message, file_message, is_done, of
 use Rattle.tape_volumes.specs.Messages.{WritesEnding, WritesMessage}
 
 -- what was written, by the answer of the write
-says : {E : Type 0} (text : List ℕ) (before now : Option (List ℕ)) (faults faults_now : ℕ) (r : Result (Unit {0}) E) → OnOk r (Appends before now text) → HasCause faults faults_now r
+says : {E : Type 0} (text : List ℕ) (before now : Option (List ℕ)) (faults faults_now : ℕ) (r : Result (Unit {0}) E) → WritesAll before now text r → HasCause faults faults_now r
     → WritesMessage text before now faults faults_now
-says text before now faults faults_now (Ok u) appends cause = inl (appends, cause)
-says text before now faults faults_now (Err e) appends cause = inr cause
+says text before now faults faults_now (Ok u) all cause = inl (all, cause)
+says text before now faults faults_now (Err e) front cause = inr (front, cause)
 
 not_done : (name : List ℕ) (e : Ending) (before now : Option (List ℕ)) (faults faults_now : ℕ) → is_done e ≡ false → WritesMessage (ending_message name e) before now faults faults_now
     → WritesEnding name e before now faults faults_now
@@ -60,15 +60,15 @@ told_file_parts image file cause advice held said caused advised images files ca
 -- ---- what was written
 
 pub says_ending : {E : Type 0} (name : List ℕ) (e : Ending) (before now : Option (List ℕ)) (faults faults_now : ℕ) (r : Result (Unit {0}) E) (text : List ℕ)
-    → text ≡ ending_message name e → OnOk r (Appends before now text) → HasCause faults faults_now r → is_done e ≡ false → WritesEnding name e before now faults faults_now
+    → text ≡ ending_message name e → WritesAll before now text r → HasCause faults faults_now r → is_done e ≡ false → WritesEnding name e before now faults faults_now
 says_ending name e before now faults faults_now r text same appends cause other =
-    not_done name e before now faults faults_now other (says (ending_message name e) before now faults faults_now r (subst (λ (text : List ℕ). OnOk r (Appends before now text)) same appends) cause)
+    not_done name e before now faults faults_now other (says (ending_message name e) before now faults faults_now r (subst (λ (text : List ℕ). WritesAll before now text r) same appends) cause)
 
 pub says_of_file : {E : Type 0} (image file : List ℕ) (e : Ending) (before now : Option (List ℕ)) (faults faults_now : ℕ) (r : Result (Unit {0}) E) (text : List ℕ)
-    → text ≡ file_message image file e → OnOk r (Appends before now text) → HasCause faults faults_now r → WritesMessage (file_message image file e) before now faults faults_now
+    → text ≡ file_message image file e → WritesAll before now text r → HasCause faults faults_now r → WritesMessage (file_message image file e) before now faults faults_now
 says_of_file image file e before now faults faults_now r text same appends cause =
-    says (file_message image file e) before now faults faults_now r (subst (λ (text : List ℕ). OnOk r (Appends before now text)) same appends) cause
+    says (file_message image file e) before now faults faults_now r (subst (λ (text : List ℕ). WritesAll before now text r) same appends) cause
 
 -- a text that is the same
-pub as_told : {E : Type 0} (before now : Option (List ℕ)) (r : Result (Unit {0}) E) (text told : List ℕ) → text ≡ told → OnOk r (Appends before now text) → OnOk r (Appends before now told)
-as_told before now r text told same appends = subst (λ (text : List ℕ). OnOk r (Appends before now text)) same appends
+pub as_told : {E : Type 0} (before now : Option (List ℕ)) (r : Result (Unit {0}) E) (text told : List ℕ) → text ≡ told → WritesAll before now text r → WritesAll before now told r
+as_told before now r text told same appends = subst (λ (text : List ℕ). WritesAll before now text r) same appends

@@ -2,6 +2,7 @@
 use Rattle.std.specs.Prelude.{◌≡◌, ◌⊎◌, ◌++◌, ℕ, true, false, List, [], Option, codes}
 use Rattle.std.specs.Io.KnownBytes.{Appends}
 use Rattle.lif_model.specs.Causes.{Rose}
+use Rattle.il_ports.specs.Writing.{WritesFront}
 use Rattle.tape_volumes.specs.declared.went.Went.TheVariants as went
 use Rattle.tape_volumes.specs.declared.ending.Ending.{Ending}
 use Rattle.tape_volumes.specs.declared.ending.Ending.TheVariants as ending
@@ -27,16 +28,17 @@ unread_line = program_line (codes "an argument is not UTF-8, or there is not eno
 abbrev pub no_name_line : List ℕ → List ℕ
 no_name_line text = told_line text (codes "a file has a name of one to ten bytes, of which %HH spells one") []
 
--- the text was written, or standard error failed
+-- the text was written; or a front of it, and then standard error failed
 abbrev pub WritesMessage : List ℕ → (before now : Option (List ℕ)) (faults faults_now : ℕ) → Type 0
-WritesMessage text before now faults faults_now = (Appends before now text × (faults_now ≡ faults)) ⊎ Rose faults faults_now
+WritesMessage text before now faults faults_now =
+    (Appends before now text × (faults_now ≡ faults)) ⊎ (WritesFront before now text × Rose faults faults_now)
 
 -- the message of a job on the image of that name, unless all was done
 abbrev pub WritesEnding : List ℕ → Ending → (before now : Option (List ℕ)) (faults faults_now : ℕ) → Type 0
 WritesEnding name (ending.Went went.Done) before now faults faults_now = (now ≡ before) × (faults_now ≡ faults)
 WritesEnding name e before now faults faults_now = WritesMessage (ending_message name e) before now faults faults_now
 
--- The message of a job on one file of the image, unless all was done. It names the file if it concerns that one.
+-- The message of a job on one file of the image, unless all was done. It names the file if the ending concerns the file.
 abbrev pub WritesFileEnding : (image file : List ℕ) → Ending → (before now : Option (List ℕ)) (faults faults_now : ℕ) → Type 0
 WritesFileEnding image file e before now faults faults_now =
     ((is_of_file e ≡ true) × WritesMessage (file_message image file e) before now faults faults_now)

@@ -40,11 +40,11 @@ TellsNothing old now = (now.error ≡ old.error) × (now.error_faults ≡ old.er
 abbrev pub WritesError : List ℕ → Written → Written → Type 0
 WritesError text old now = WritesMessage text old.error now.error old.error_faults now.error_faults
 
--- there was no memory to begin with, and that is told
+-- there was no memory to begin with, and a message says so
 abbrev pub LacksMemory : (status : ℕ) → Written → Written → Type 0
 LacksMemory status old now = (status ≡ 7) × PrintsNothing old now × WritesError memory_line old now
 
--- a front of the text was written to standard output, which then failed, and that is told
+-- a front of the text was written to standard output, which then failed, and a message says so
 abbrev pub LosesOutput : List ℕ → (status : ℕ) → Written → Written → Type 0
 LosesOutput text status old now =
     (status ≡ 6) × WritesFront old.out now.out text × Rose old.out_faults now.out_faults × WritesError output_line old now

@@ -71,7 +71,7 @@ impl Ending {
             Ending::Went(Went::Fault) => b"the image could not be read or written",
             Ending::Went(Went::Unwritten) => b"standard output could not be written",
             Ending::Went(Went::OutOfMemory) => b"there is not enough memory",
-            Ending::Went(Went::NotAll) => b"not all files were copied",
+            Ending::Went(Went::NotAll) => b"not all was done",
             Ending::Went(Went::FolderLost) => b"the folder could not be made or written",
             Ending::Went(Went::NoSize) => b"it does not tell how many bytes it has",
             Ending::NoImage => b"there is no such image",

@@ -1,5 +1,5 @@
 ghost use Rattle.std.specs.Prelude.{◌≡◌, [], OnOk};
-ghost use Rattle.std.specs.Io.KnownBytes.{Appends};
+ghost use Rattle.il_ports.specs.Writing.{WritesAll};
 ghost use Rattle.std.specs.List.{flat_map};
 ghost use Rattle.lif_model.specs.Causes.{HasCause};
 ghost use Rattle.tape_volumes.specs.Messages.{WritesMessage, WritesEnding, WritesFileEnding, program_line};
@@ -15,8 +15,8 @@ const OUTPUT_LOST: u8 = 6;
 
 /// Writes these texts, one after the other.
 pub fn write_parts<K: Sink>(to: &mut K, parts: &[&[u8]]) -> Result<(), Failed>
-    ensures parts { OnOk result
-        (Appends (K.written to.old) (K.written to.new) (flat_map (λ part. part.now) parts.now)) }
+    ensures parts { WritesAll (K.written to.old) (K.written to.new)
+        (flat_map (λ part. part.now) parts.now) result }
     ensures cause { HasCause (K.faults to.old) (K.faults to.new) result }
 {
     'parts: for part in parts {
@@ -63,8 +63,8 @@ pub fn no_memory<K: Sink>(to: &mut K) -> u8
 
 /// Writes what a message concerns, why something was not done, and what that means.
 fn write_told<K: Sink>(to: &mut K, subject: &str, cause: &[u8], advice: &[u8]) -> Result<(), Failed>
-    ensures parts { OnOk result
-        (Appends (K.written to.old) (K.written to.new) (told_line subject.now cause.now advice.now)) }
+    ensures parts { WritesAll (K.written to.old) (K.written to.new)
+        (told_line subject.now cause.now advice.now) result }
     ensures cause { HasCause (K.faults to.old) (K.faults to.new) result }
 {
     write_parts(
@@ -75,8 +75,8 @@ fn write_told<K: Sink>(to: &mut K, subject: &str, cause: &[u8], advice: &[u8]) -
 
 /// Writes the message of an ending that concerns this.
 pub fn write_ending_of<K: Sink>(to: &mut K, subject: &str, ending: &Ending) -> Result<(), Failed>
-    ensures parts { OnOk result
-        (Appends (K.written to.old) (K.written to.new) (ending_message subject.now ending.now)) }
+    ensures parts { WritesAll (K.written to.old) (K.written to.new)
+        (ending_message subject.now ending.now) result }
     ensures cause { HasCause (K.faults to.old) (K.faults to.new) result }
 {
     write_told(to, subject, ending.cause(), ending.advice())
@@ -122,7 +122,7 @@ fn write_of_file<K: Sink>(to: &mut K, image: &str, file: &str, ending: Ending)
     );
 }
 
-/// Writes the message of a job on one file of an image, unless all was done. It names the file if it concerns that one.
+/// Writes the message of a job on one file of an image, unless all was done. It names the file if the ending concerns the file.
 pub fn write_file_ending<K: Sink>(to: &mut K, image: &str, file: &str, ending: Ending)
     ensures { WritesFileEnding image.now file.now ending
         (K.written to.old) (K.written to.new) (K.faults to.old) (K.faults to.new) }

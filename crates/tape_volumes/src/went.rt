@@ -22,7 +22,7 @@ pub enum Went {
     NoSize,
     /// The folder could not be made or written.
     FolderLost,
-    /// A file was not copied.
+    /// A file was not copied, or a change was not made.
     NotAll,
 }
 

@@ -223,7 +223,7 @@ fn rename<'a>(alloc: Global) -> Result<Command<'a>, AllocError>
         alloc,
         "new",
         "NEW",
-        "Its new name: a letter, then letters, digits and _, ten at most",
+        "Its new name: a capital letter, then capital letters, digits and _",
     ))?
     .arg(flag(alloc, "help", "Print this page"))?;
     Ok(command)
