@@ -68,13 +68,14 @@ abbrev pub WriteFails : {F T E : Type 0} → (F → FileView) → TapeState F �
 WriteFails view old new (Ok _) = Unit {0}
 WriteFails view old new (Err _) = (old.access ≡ Read) ⊎ ((old.is_broken ≡ true) ⊎ FileFailed view old new)
 
--- The file keeps its name, stays open for what it was, and stays made if it was made. It is given up only if a sync of
--- it failed.
+-- The file keeps its name, stays open for what it was, and stays made if it was made and held if it was held. It is
+-- given up only if a sync of it failed.
 pub record StaysOpen {F : Type 0} (view : F → FileView) (old new : TapeState F) : Type 0 where
   pub size : new.size ≡ old.size
   pub access : new.access ≡ old.access
   pub named : (view new.file).named ≡ (view old.file).named
   pub made : (view old.file).made → (view new.file).made
+  pub held : (access : Access) → (view old.file).held access → (view new.file).held access
   pub broken : new.is_broken ≡ true → (old.is_broken ≡ true) ⊎ (view new.file).unsynced
 
 -- the file becomes no shorter, and no longer than up to the end of that record

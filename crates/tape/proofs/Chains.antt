@@ -10,7 +10,9 @@ use Rattle.std.proofs.lemmas.List.Folds.{find-append, list_all-append}
 use Rattle.tape_volumes.specs.declared.ending.Ending.{Ending}
 use Rattle.tape_volumes.specs.Endings.{is_done, is_last, ending_status}
 use Rattle.tape_volumes.specs.Outputs.{Written}
-use Rattle.tape.specs.Images.{DriveSight}
+use Rattle.tape_drives.specs.Lending.{Lending, LendsOn}
+use Rattle.tape.specs.Images.{DriveSight, MediumSight}
+use Rattle.tape.proofs.Lends.{listed_on}
 use Rattle.tape.specs.Several.{AreListed, DirsEnd, ImageListed, status_for, status_or}
 
 -- ---- the exit status
@@ -151,6 +153,18 @@ module _ {M : Type 0} (drives : DriveSight M) (csv all : Bool) (names : List (Li
           let one = eqb-true (length (name ∷ rest)) 1 (sym (ap (λ (l : List (List ℕ)). length l == 1) alone) ∙ same) in
           nil_from_length rest (omega (arith, one))
       by (inr last) none = let clash : Some e ≡ None = sym (last_found sofar.ends e sofar.none last) ∙ none in cc
+
+-- more drives were lent
+pub so_far_on : {M : Type 0} (media : MediumSight M) (before now later : Lending M) → LendsOn now later → (csv all : Bool) (names first : List (List ℕ)) (old written : Written) (done : Bool)
+    → ListedSoFar (record { media = media; before = before; now = now }) csv all names first old written done
+    → ListedSoFar (record { media = media; before = before; now = later }) csv all names first old written done
+so_far_on media before now later on csv all names first old written done sofar = record {
+  ends = sofar.ends;
+  listed = listed_on media before now before later on csv (length names) all first sofar.ends old written sofar.listed;
+  one = sofar.one;
+  none = sofar.none;
+  done_is = sofar.done_is;
+}
 
 -- ---- over the names in memory
 

@@ -12,7 +12,7 @@ use Rattle.tape_volumes.specs.Volumes.{DoneOrNot, Mounted}
 use Rattle.tape_volumes.specs.declared.went.Went.{Went}
 use Rattle.tape_volumes.specs.declared.went.Went.TheVariants as went
 use Rattle.tape.specs.Mounts.{mounted_in}
-use Rattle.tape.specs.Images.{JobEnds, WorksOnImage, WorksOnTape, mounted_on}
+use Rattle.tape.specs.Images.{DriveSight, EndsInDrive, JobEnds, WorksOnImage, WorksOnTape, mounted_on}
 use Rattle.tape_volumes.specs.declared.ending.Ending.{Ending}
 use Rattle.tape_volumes.specs.declared.ending.Ending.TheVariants as ending
 
@@ -101,6 +101,21 @@ works_on_image does leaves name v m n law did works = record {
   ];
 }
 
+-- what it means that nothing was done on the tape
+pub works_with : (does : Went → Mounted → Mounted → Type 0) (leaves : Mounted → Tape → Type 0) (nothing none : Type 0) (w : Went) (v m : MediumView) → (nothing → none)
+    → WorksOnTape (DoneOrNot does nothing w) leaves v m → WorksOnTape (DoneOrNot does none w) leaves v m
+works_with does leaves nothing none w v m means works = record {
+  kept = works.kept;
+  did = elim works.did [
+    | inl not ↦ inl (not.0, not.1, means not.2)
+    | inr done ↦ inr done
+  ];
+  size = works.size;
+  stops = works.stops;
+  same = works.same;
+  others = works.others;
+}
+
 -- what it means that nothing was done
 pub ends_with : (does : Went → Mounted → Mounted → Type 0) (leaves : Mounted → Tape → Type 0) (nothing none refused : Type 0) (e : Ending) (name : List ℕ) (v m : MediumView) → (nothing → none)
     → JobEnds does leaves nothing refused e name v m → JobEnds does leaves none refused e name v m
@@ -119,3 +134,15 @@ ends_with does leaves nothing none refused (ending.Went w) name v m means ends =
 ends_with does leaves nothing none refused ending.NoImage name v m means ends = (ends.0, ends.1, ends.2, means ends.3)
 ends_with does leaves nothing none refused ending.ImageTooLarge name v m means ends = (ends.0, ends.1, ends.2, means ends.3)
 ends_with does leaves nothing none refused ending.NotOpened name v m means ends = (ends.0, ends.1, ends.2, means ends.3)
+
+-- the same in a drive that was given for it
+pub ends_in_drive : {M : Type 0} (drives : DriveSight M) (does : Went → Mounted → Mounted → Type 0) (leaves : Mounted → Tape → Type 0) (nothing none : Type 0) (e : Ending) (name : List ℕ) → (nothing → none)
+    → EndsInDrive drives does leaves nothing e name → EndsInDrive drives does leaves none e name
+ends_in_drive drives does leaves nothing none e name means ends = record {
+  drive = ends.drive;
+  drive_now = ends.drive_now;
+  given = ends.given;
+  back = ends.back;
+  empty = ends.empty;
+  did = ends_with does leaves nothing none (drives.media.refuses ends.drive ends.drive_now name) e name (drives.media.view ends.drive) (drives.media.view ends.drive_now) means ends.did;
+}

@@ -1,5 +1,6 @@
 mod Mounts
 mod Inserts
+mod Lends
 mod Chains
 mod Spelt
 mod Wholes

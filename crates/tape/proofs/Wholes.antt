@@ -15,7 +15,8 @@ use Rattle.il_host.specs.Whole.{MayHaveLeft}
 use Rattle.tape_volumes.specs.declared.went.Went.{Went}
 use Rattle.tape_volumes.specs.declared.went.Went.TheVariants as went
 use Rattle.tape_volumes.specs.declared.ending.Ending.TheVariants as ending
-use Rattle.tape.specs.WholeImages.{IsNotRead, IsReadWhole, IsUnreadable, StaysAsRead, TapeIsRead}
+use Rattle.tape.specs.Images.{DriveSight}
+use Rattle.tape.specs.WholeImages.{FailsToRead, IsNotRead, IsReadWhole, IsUnreadable, ReadsInDrive, StaysAsRead, TapeIsRead}
 
 -- the bytes of one record more
 pub bytes_more : (t : Tape) (n : ℕ) → n < length t → (before after bytes : List ℕ) → before ≡ bytes_of (take n t) → after ≡ before ++ bytes → bytes ≡ record_at t n → after ≡ bytes_of (take (n + 1) t)
@@ -56,7 +57,10 @@ module _ (name : List ℕ) (v m w : MediumView) (did : DidInsert name making.No 
 
   -- its tape could not be read
   pub not_read : (refused : Type 0) (went_so : Went) → IsUnreadable went_so m w → IsNotRead refused (ending.Went went_so) name v w
-  not_read refused went.Fault why = (subst (λ (n : ℕ). Rose n w.faults) did.goes_on.cause why.0, stays_inserted why.2)
+  not_read refused went.Fault why = (subst (λ (n : ℕ). Rose n w.faults) did.goes_on.cause why.0, some_records, stays_inserted why.3)
+    where
+      some_records : 0 < w.record_count
+      some_records = let least = size_bounds m.record_count did.answer_is.0 in omega (arith, least.0, why.1)
   not_read refused went.OutOfMemory why = (why.0 ∙ did.goes_on.cause, stays_inserted why.2)
   not_read refused went.Done why = absurd why
   not_read refused (went.Refused code) why = absurd why
@@ -78,3 +82,14 @@ read_whole name bytes v m w did read = record {
   where
     left_as : (t : Tape) → m.tape ≡ Some t → (x : Tape) → MayHaveLeft v w x → x ≡ t
     left_as t is x left = ⊎_elim (λ was. absurd (left.0 was)) (λ now. same_tape m.tape x t now is) (did.since v.moment x (read.since.nothing_else v.moment x left.1))
+
+-- it was read, and then there was no memory for a copy
+pub no_memory_for_copy : {M : Type 0} (drives : DriveSight M) (name bytes : List ℕ) → ReadsInDrive drives name bytes → FailsToRead drives name (ending.Went went.OutOfMemory)
+no_memory_for_copy drives name bytes read = record {
+  drive = read.drive;
+  drive_now = read.drive_now;
+  given = read.given;
+  back = read.back;
+  empty = read.empty;
+  did = (read.did.faults, read.did.stays);
+}

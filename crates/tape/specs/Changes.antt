@@ -2,18 +2,18 @@
 use Rattle.std.specs.Prelude.{◌≡◌, ◌⊎◌, ℕ, false, List, [], ◌∷◌, map, Option, Some, None, codes}
 use Rattle.lif_dir.specs.declared.entries.Name.{Name}
 use Rattle.lif_dir.specs.declared.names.NewName.{NewName}
-use Rattle.il_ports.specs.Media.{MediumView}
 use Rattle.il_script.specs.declared.reply.Reply.{Reply}
+use Rattle.tape_drives.specs.Lending.{IsUnused}
 use Rattle.tape_changes.specs.ChangeMessages.{change_messages}
 use Rattle.tape_changes.specs.Changing.{ChangesDid, FrontIsLeft, Output, commands_of, output_of}
 use Rattle.tape_changes.specs.declared.changing.Step.{Step}
 use Rattle.tape_volumes.specs.Endings.{ending_status, told_line}
 use Rattle.tape_volumes.specs.Messages.{WritesMessage, no_name_line}
-use Rattle.tape_volumes.specs.Outputs.{LacksMemory, PrintsNothing, TellsNothing, WritesError, Written}
+use Rattle.tape_volumes.specs.Outputs.{PrintsNothing, TellsNothing, WritesError, Written}
 use Rattle.tape_volumes.specs.declared.change.Change.{Change}
 use Rattle.tape_volumes.specs.declared.change.Change.TheVariants as change
 use Rattle.tape_volumes.specs.declared.ending.Ending.{Ending}
-use Rattle.tape.specs.Images.{DriveSight, JobEnds}
+use Rattle.tape.specs.Images.{DriveSight, EndsInDrive, LacksMemoryFor}
 use Rattle.tape.specs.Names.{name_spelt, names_spelt, new_name_spelt, unspelt}
 
 -- a change; the subject of its message; and what is printed once the change was made
@@ -26,27 +26,23 @@ abbrev pub said : Step → SaidStep
 said step = record { change = step.change; subject = step.subject.now; line = step.line.now }
 
 -- how the job ends on the image of that name
-abbrev pub ChangesEnd : (refused : Type 0) → Ending → (image : List ℕ) (steps : List Step) (replies : List Reply) (v w : MediumView) (old now : Output) → Type 0
-ChangesEnd refused e image steps replies v m old now =
-    JobEnds (λ w s t. ChangesDid false steps w replies s t old now) (FrontIsLeft (commands_of steps)) ((replies ≡ []) × (now ≡ old)) refused e image v m
+abbrev pub ChangesEnd : {M : Type 0} → DriveSight M → Ending → (image : List ℕ) (steps : List Step) (replies : List Reply) (old now : Output) → Type 0
+ChangesEnd drives e image steps replies old now =
+    EndsInDrive drives (λ w s t. ChangesDid false steps w replies s t old now) (FrontIsLeft (commands_of steps)) ((replies ≡ []) × (now ≡ old)) e image
 
--- The image of that name was inserted in an empty drive, and these steps were taken, one after the other, unless the image
--- was not opened; the job ended so, and its messages were written.
+-- These steps were taken on the image of that name, one after the other, unless the image was not opened; the job ended
+-- so, and its messages were written.
 pub record ImageIsChanged {M : Type 0} (drives : DriveSight M) (image : List ℕ) (steps : List Step) (status : ℕ) (old now : Written) : Type 0 where
-  pub drive : M
-  pub drive_now : M
-  pub empty : (drives.view drive).record_count ≡ 0
   pub ending : Ending
   pub replies : List Reply
-  pub ends : ChangesEnd (drives.refuses drive drive_now image) ending image steps replies (drives.view drive) (drives.view drive_now)
-      (output_of old.out old.out_faults) (output_of now.out now.out_faults)
+  pub ends : ChangesEnd drives ending image steps replies (output_of old.out old.out_faults) (output_of now.out now.out_faults)
   pub status_is : status ≡ ending_status ending
   pub says : WritesMessage (change_messages image ending steps replies) old.error now.error old.error_faults now.error_faults
 
--- The image was changed by steps that say this, or there was no memory to begin with.
+-- The image was changed by steps that say this; or there was no memory to begin with, and no drive was used.
 abbrev pub ChangesBy : {M : Type 0} → DriveSight M → (image : List ℕ) → List SaidStep → (status : ℕ) → (old now : Written) → Type 0
 ChangesBy drives image steps status old now =
-    LacksMemory status old now ⊎ ((taken : List Step) × (map said taken ≡ steps) × ImageIsChanged drives image taken status old now)
+    LacksMemoryFor drives status old now ⊎ ((taken : List Step) × (map said taken ≡ steps) × ImageIsChanged drives image taken status old now)
 
 -- an argument is refused, with this line
 abbrev pub RefusesArgument : List ℕ → (status : ℕ) → (old now : Written) → Type 0
@@ -64,12 +60,12 @@ PurgesBy drives image (Some names) unspelt texts status old now = ChangesBy driv
 PurgesBy drives image None (Some text) texts status old now = RefusesArgument (no_name_line text) status old now
 PurgesBy drives image None None texts status old now = ⊥
 
--- The files whose names these texts spell were purged, or there was no memory to begin with. The first text that spells the
--- name of no file is refused. Without a text nothing is done.
+-- The files whose names these texts spell were purged; or there was no memory to begin with, and no drive was used. The
+-- first text that spells the name of no file is refused. Without a text nothing is done.
 abbrev pub PurgesFiles : {M : Type 0} → DriveSight M → (image : List ℕ) → (texts : List (List ℕ)) → (status : ℕ) → (old now : Written) → Type 0
-PurgesFiles drives image [] status old now = (status ≡ 0) × PrintsNothing old now × TellsNothing old now
+PurgesFiles drives image [] status old now = IsUnused drives.before drives.now × (status ≡ 0) × PrintsNothing old now × TellsNothing old now
 PurgesFiles drives image (text ∷ texts) status old now =
-    LacksMemory status old now ⊎ PurgesBy drives image (names_spelt (text ∷ texts)) (unspelt (text ∷ texts)) (text ∷ texts) status old now
+    LacksMemoryFor drives status old now ⊎ PurgesBy drives image (names_spelt (text ∷ texts)) (unspelt (text ∷ texts)) (text ∷ texts) status old now
 
 -- ---- rename
 

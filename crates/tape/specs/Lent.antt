@@ -1,24 +1,17 @@
 -- The drives and the folders that a job uses.
-use Rattle.std.specs.Prelude.{◌≡◌, ◌≤◌, ◌+◌, ℕ, Bool, true, length, Option, Some, None, option_and_then, option_map}
-use Rattle.lif_dir.specs.declared.entries.Name.{Name}
-use Rattle.lif_dir.specs.declared.names.NewName.{NewName}
+use Rattle.std.specs.Prelude.{ℕ, length, Option, Some, None, option_and_then, option_map}
+use Rattle.tape.specs.New.{label_spelt, slots_spelt}
 use Rattle.tape.specs.Names.{name_spelt, names_spelt, new_name_spelt}
-use Rattle.tape_words.specs.Asked.{Wanted, Dir, Out, Get, Raw, Free, Map, Why, Diff, Purge, Rename, Adopt, Upgrade}
-
--- At most n drives were used, and all are back. (No drive is given before the one before it is back: `drive` requires
--- that.)
-pub record UsesDrives (n given given_now : ℕ) (all_back : Bool) : Type 0 where
-  pub few : given_now ≤ given + n
-  pub back : all_back ≡ true
+use Rattle.tape_words.specs.Asked.{Wanted, Dir, Out, Get, Raw, Free, Map, Why, Diff, Purge, Rename, Adopt, Upgrade, New}
 
 -- one, if the names are spelt that a job needs before it opens an image
 abbrev pub one_if : {X : Type 0} → Option X → ℕ
 one_if None = 0
 one_if (Some x) = 1
 
--- the two names of `rename`, if both are spelt
-abbrev pub both_names : Option Name → Option NewName → Option (Name × NewName)
-both_names name name_now = option_and_then (λ old. option_map (λ new. (old, new)) name_now) name
+-- two arguments, if both are spelt
+abbrev pub both_arguments : {X Y : Type 0} → Option X → Option Y → Option (X × Y)
+both_arguments first second = option_and_then (λ x. option_map (λ y. (x, y)) second) first
 
 -- how many drives are used at most if this is asked for
 abbrev pub drives_for : Option Wanted → ℕ
@@ -29,7 +22,7 @@ drives_for (Some (Raw image name)) = one_if (name_spelt name)
 drives_for (Some (Free image)) = 1
 drives_for (Some (Map svg image)) = 1
 drives_for (Some (Purge image names)) = one_if (names_spelt names)
-drives_for (Some (Rename image name name_now)) = one_if (both_names (name_spelt name) (new_name_spelt name_now))
+drives_for (Some (Rename image name name_now)) = one_if (both_arguments (name_spelt name) (new_name_spelt name_now))
 drives_for (Some (Adopt image)) = 1
 drives_for (Some (Upgrade image)) = 1
 drives_for _ = 0
@@ -39,6 +32,11 @@ abbrev pub readers_for : Option Wanted → ℕ
 readers_for (Some (Why image)) = 1
 readers_for (Some (Diff image other)) = 2
 readers_for _ = 0
+
+-- how many drives with a new image
+abbrev pub makers_for : Option Wanted → ℕ
+makers_for (Some (New disc small image label slots)) = one_if (both_arguments (label_spelt label) (slots_spelt slots))
+makers_for _ = 0
 
 -- how many folders
 abbrev pub folders_for : Option Wanted → ℕ

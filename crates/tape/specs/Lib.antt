@@ -11,3 +11,4 @@ pub mod Comparing
 pub mod Performing
 pub mod Lent
 pub mod Changes
+pub mod New

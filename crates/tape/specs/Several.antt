@@ -23,14 +23,11 @@ IsStyleFor csv count name style.Free = ⊥
 IsStyleFor csv count name style.Map = ⊥
 IsStyleFor csv count name style.Picture = ⊥
 
--- The image of that name was listed, in an empty drive, as one of `count` images; the job ended so on it, and its message was written.
+-- The image of that name was listed as one of `count` images; the job ended so on it, and its message was written.
 pub record ImageListed {M : Type 0} (drives : DriveSight M) (csv : Bool) (count : ℕ) (all : Bool) (name : List ℕ) (e : Ending) (old now : Written) : Type 0 where
-  pub drive : M
-  pub drive_now : M
-  pub empty : (drives.view drive).record_count ≡ 0
   pub style : Style
   pub style_is : IsStyleFor csv count name style
-  pub ends : DirEnds (drives.refuses drive drive_now name) e name style all (drives.view drive) (drives.view drive_now) old.out now.out old.out_faults now.out_faults
+  pub ends : DirEnds drives e name style all old.out now.out old.out_faults now.out_faults
   pub says : WritesEnding name e old.error now.error old.error_faults now.error_faults
 
 module _ {M : Type 0} (drives : DriveSight M) (csv : Bool) (count : ℕ) (all : Bool) where

@@ -13,13 +13,9 @@ abbrev pub map_style : Bool → Style
 map_style true = style.Picture
 map_style false = style.Map
 
--- The image of that name was inserted in an empty drive, and its volume was shown in this style; the job ended so, and
--- its message was written.
+-- The volume of the image of that name was shown in this style; the job ended so, and its message was written.
 pub record VolumeIsShown {M : Type 0} (drives : DriveSight M) (style : Style) (image : List ℕ) (status : ℕ) (old now : Written) : Type 0 where
-  pub drive : M
-  pub drive_now : M
-  pub empty : (drives.view drive).record_count ≡ 0
   pub ending : Ending
-  pub ends : DirEnds (drives.refuses drive drive_now image) ending image style false (drives.view drive) (drives.view drive_now) old.out now.out old.out_faults now.out_faults
+  pub ends : DirEnds drives ending image style false old.out now.out old.out_faults now.out_faults
   pub status_is : status ≡ ending_status ending
   pub says : WritesEnding image ending old.error now.error old.error_faults now.error_faults

@@ -1,13 +1,12 @@
 -- What the job `why` does on an image.
 use Rattle.std.specs.Prelude.{◌≡◌, ◌⊎◌, ℕ, List, if◌then◌else◌}
-use Rattle.il_ports.specs.Media.{MediumView}
 use Rattle.tape_why.specs.Why.{is_changeable, why_text}
 use Rattle.tape_volumes.specs.declared.ending.Ending.{Ending}
 use Rattle.tape_volumes.specs.Endings.{ending_status}
 use Rattle.tape_volumes.specs.Messages.{WritesEnding}
 use Rattle.tape_volumes.specs.Outputs.{LacksMemory, PrintsNothing, PrintsWith, Written}
 use Rattle.tape.specs.Images.{DriveSight}
-use Rattle.tape.specs.WholeImages.{IsNotRead, IsReadWhole}
+use Rattle.tape.specs.WholeImages.{FailsToRead, ReadsInDrive}
 
 -- the job ended so on the image of that name before anything was printed, and a message says so
 abbrev pub FailsOn : Ending → (image : List ℕ) → (status : ℕ) → (old now : Written) → Type 0
@@ -21,14 +20,8 @@ why_status bytes = if is_changeable bytes then 0 else 1
 abbrev pub TellsWhy : List ℕ → (status : ℕ) → (old now : Written) → Type 0
 TellsWhy bytes status old now = LacksMemory status old now ⊎ PrintsWith (why_status bytes) (why_text bytes) status old now
 
-abbrev pub WhyEnds : (refused : Type 0) → (image : List ℕ) → (v m : MediumView) → (status : ℕ) → (old now : Written) → Type 0
-WhyEnds refused image v m status old now =
-    ((e : Ending) × IsNotRead refused e image v m × FailsOn e image status old now)
-    ⊎ ((bytes : List ℕ) × IsReadWhole image bytes v m × TellsWhy bytes status old now)
-
--- The image of that name was read whole in an empty drive, and why it can or cannot be listed and changed was printed.
-pub record ImageIsExplained {M : Type 0} (drives : DriveSight M) (image : List ℕ) (status : ℕ) (old now : Written) : Type 0 where
-  pub drive : M
-  pub drive_now : M
-  pub empty : (drives.view drive).record_count ≡ 0
-  pub ends : WhyEnds (drives.refuses drive drive_now image) image (drives.view drive) (drives.view drive_now) status old now
+-- The image of that name was read whole, and why it can or cannot be listed and changed was printed; or that ended so.
+abbrev pub ImageIsExplained : {M : Type 0} → DriveSight M → (image : List ℕ) → (status : ℕ) → (old now : Written) → Type 0
+ImageIsExplained drives image status old now =
+    ((e : Ending) × FailsToRead drives image e × FailsOn e image status old now)
+    ⊎ ((bytes : List ℕ) × ReadsInDrive drives image bytes × TellsWhy bytes status old now)

@@ -4,27 +4,28 @@ ghost use Rattle.std.specs.Vec.{vec_capacity};
 ghost use Rattle.tape.specs.Changes.{AdoptsVolume, ChangesBy, ImageIsChanged, PurgesFiles, RenamesFile, UpgradesVolume};
 ghost use Rattle.tape.specs.Changes.{purges, redo_step, said};
 ghost use Rattle.tape.specs.Images.{sight};
-ghost use Rattle.tape.specs.Lent.{UsesDrives, both_names, one_if};
+ghost use Rattle.tape_drives.specs.Lending.{Uses};
+ghost use Rattle.tape.specs.Lent.{both_arguments, one_if};
 ghost use Rattle.tape.specs.Names.{name_spelt, names_spelt, new_name_spelt};
 ghost use Rattle.tape_changes.specs.Changing.{AreFormed};
 ghost use Rattle.tape_volumes.specs.Changes.{IsFormedChange};
 ghost use Rattle.tape_volumes.specs.Outputs.{written};
 
-use crate::images::{Returned, work_on_image};
+use crate::images::work_on_image;
 use crate::names::{NoNames, name_spelt, names_spelt};
-use crate::several::Drives;
 use il_ports::{Medium, Sink};
 use il_script::Reply;
 use lif_dir::{Name, NewName};
 use std::alloc::{AllocError, Global};
 use tape_changes::{Changing, Step, write_changed};
+use tape_drives::Drives;
 use tape_volumes::{Change, no_memory, refuse_name, refuse_text};
 
 /// What `adopt` prints once it was done.
 const ADOPTED: &[u8] = b"the volume has its redo file\n";
 
 /// What `upgrade` prints once it was done.
-const UPGRADED: &[u8] = b"34 records are the redo file's\n";
+pub(crate) const UPGRADED: &[u8] = b"34 records are the redo file's\n";
 
 /// Makes the changes of these steps on the image of that name, and says the exit status. The list of replies is empty,
 /// with room for all.
@@ -37,15 +38,15 @@ fn take_steps<M: Medium + Drop, D: Drives<M>, K: Sink + Drop, E: Sink>(
     out: K,
     error: &mut E,
 ) -> (u8, K)
-    requires back { D.all_back drives.old ≡ true }
+    requires back { (D.lent drives.old).all_back ≡ true }
     requires formed { AreFormed steps.now }
     requires some { 0 < length steps.now }
     requires empty { replies.items ≡ [] }
     requires room { length steps.now ≤ vec_capacity replies }
-    ensures changed { ImageIsChanged (sight M.view M.refuses) image.now steps.now result.0
+    ensures changed { ImageIsChanged (sight M.view M.refuses (D.lent drives.old) (D.lent drives.new)) image.now steps.now result.0
         (written (K.written out) (K.faults out) (E.written error.old) (E.faults error.old))
         (written (K.written result.1) (K.faults result.1) (E.written error.new) (E.faults error.new)) }
-    ensures drives { UsesDrives 1 (D.given drives.old) (D.given drives.new) (D.all_back drives.new) }
+    ensures drives { Uses 1 (D.lent drives.old) (D.lent drives.new) }
 {
     let ends_early = false;
     let job = Changing {
@@ -54,10 +55,7 @@ fn take_steps<M: Medium + Drop, D: Drives<M>, K: Sink + Drop, E: Sink>(
         replies,
         out,
     };
-    let drive = drives.drive();
-    let (ending, returned) = work_on_image(alloc, drive, image, job);
-    let Returned { medium, job } = returned;
-    drives.back(medium);
+    let (ending, job) = work_on_image(alloc, drives, image, job);
     write_changed(error, image, ending, steps, &job.replies);
     (ending.status(), job.out)
 }
@@ -71,13 +69,13 @@ fn change_image<M: Medium + Drop, D: Drives<M>, K: Sink + Drop, E: Sink>(
     out: K,
     error: &mut E,
 ) -> (u8, K)
-    requires back { D.all_back drives.old ≡ true }
+    requires back { (D.lent drives.old).all_back ≡ true }
     requires formed { AreFormed steps.now }
     requires some { 0 < length steps.now }
-    ensures changed { ChangesBy (sight M.view M.refuses) image.now (map said steps.now) result.0
+    ensures changed { ChangesBy (sight M.view M.refuses (D.lent drives.old) (D.lent drives.new)) image.now (map said steps.now) result.0
         (written (K.written out) (K.faults out) (E.written error.old) (E.faults error.old))
         (written (K.written result.1) (K.faults result.1) (E.written error.new) (E.faults error.new)) }
-    ensures drives { UsesDrives 1 (D.given drives.old) (D.given drives.new) (D.all_back drives.new) }
+    ensures drives { Uses 1 (D.lent drives.old) (D.lent drives.new) }
 {
     match Vec::with_capacity(alloc, steps.len()) {
         Ok(replies) => take_steps(alloc, drives, image, steps, replies, out, error),
@@ -125,13 +123,13 @@ fn purge_named<M: Medium + Drop, D: Drives<M>, K: Sink + Drop, E: Sink>(
     out: K,
     error: &mut E,
 ) -> (u8, K)
-    requires back { D.all_back drives.old ≡ true }
+    requires back { (D.lent drives.old).all_back ≡ true }
     requires each { length names.now ≡ length texts.now }
     requires some { 0 < length texts.now }
-    ensures purged { ChangesBy (sight M.view M.refuses) image.now (purges names.now (map (λ text. text.now) texts.now)) result.0
+    ensures purged { ChangesBy (sight M.view M.refuses (D.lent drives.old) (D.lent drives.new)) image.now (purges names.now (map (λ text. text.now) texts.now)) result.0
         (written (K.written out) (K.faults out) (E.written error.old) (E.faults error.old))
         (written (K.written result.1) (K.faults result.1) (E.written error.new) (E.faults error.new)) }
-    ensures drives { UsesDrives 1 (D.given drives.old) (D.given drives.new) (D.all_back drives.new) }
+    ensures drives { Uses 1 (D.lent drives.old) (D.lent drives.new) }
 {
     match purge_steps(alloc, names, texts) {
         Ok(steps) => change_image(alloc, drives, image, &steps, out, error),
@@ -148,11 +146,11 @@ pub fn purge_files<M: Medium + Drop, D: Drives<M>, K: Sink + Drop, E: Sink>(
     out: K,
     error: &mut E,
 ) -> (u8, K)
-    requires back { D.all_back drives.old ≡ true }
-    ensures purged { PurgesFiles (sight M.view M.refuses) image.now (map (λ text. text.now) texts.now) result.0
+    requires back { (D.lent drives.old).all_back ≡ true }
+    ensures purged { PurgesFiles (sight M.view M.refuses (D.lent drives.old) (D.lent drives.new)) image.now (map (λ text. text.now) texts.now) result.0
         (written (K.written out) (K.faults out) (E.written error.old) (E.faults error.old))
         (written (K.written result.1) (K.faults result.1) (E.written error.new) (E.faults error.new)) }
-    ensures drives { UsesDrives (one_if (names_spelt (map (λ text. text.now) texts.now))) (D.given drives.old) (D.given drives.new) (D.all_back drives.new) }
+    ensures drives { Uses (one_if (names_spelt (map (λ text. text.now) texts.now))) (D.lent drives.old) (D.lent drives.new) }
 {
     if texts.is_empty() {
         return (0, out);
@@ -182,11 +180,11 @@ pub fn rename_file<M: Medium + Drop, D: Drives<M>, K: Sink + Drop, E: Sink>(
     out: K,
     error: &mut E,
 ) -> (u8, K)
-    requires back { D.all_back drives.old ≡ true }
-    ensures renamed { RenamesFile (sight M.view M.refuses) image.now from.now to.now result.0
+    requires back { (D.lent drives.old).all_back ≡ true }
+    ensures renamed { RenamesFile (sight M.view M.refuses (D.lent drives.old) (D.lent drives.new)) image.now from.now to.now result.0
         (written (K.written out) (K.faults out) (E.written error.old) (E.faults error.old))
         (written (K.written result.1) (K.faults result.1) (E.written error.new) (E.faults error.new)) }
-    ensures drives { UsesDrives (one_if (both_names (name_spelt from.now) (new_name_spelt to.now))) (D.given drives.old) (D.given drives.new) (D.all_back drives.new) }
+    ensures drives { Uses (one_if (both_arguments (name_spelt from.now) (new_name_spelt to.now))) (D.lent drives.old) (D.lent drives.new) }
 {
     let Some(old) = name_spelt(from) else {
         return (refuse_name(error, from), out);
@@ -205,7 +203,7 @@ pub fn rename_file<M: Medium + Drop, D: Drives<M>, K: Sink + Drop, E: Sink>(
 }
 
 /// A step that concerns the redo file.
-fn redo_step(change: Change<'static>, line: &'static [u8]) -> Step<'static>
+pub(crate) fn redo_step(change: Change<'static>, line: &'static [u8]) -> Step<'static>
     ensures { said result ≡ redo_step change.entry line.now }
 {
     Step {
@@ -223,11 +221,11 @@ pub fn adopt_volume<M: Medium + Drop, D: Drives<M>, K: Sink + Drop, E: Sink>(
     out: K,
     error: &mut E,
 ) -> (u8, K)
-    requires back { D.all_back drives.old ≡ true }
-    ensures adopted { AdoptsVolume (sight M.view M.refuses) image.now result.0
+    requires back { (D.lent drives.old).all_back ≡ true }
+    ensures adopted { AdoptsVolume (sight M.view M.refuses (D.lent drives.old) (D.lent drives.new)) image.now result.0
         (written (K.written out) (K.faults out) (E.written error.old) (E.faults error.old))
         (written (K.written result.1) (K.faults result.1) (E.written error.new) (E.faults error.new)) }
-    ensures drives { UsesDrives 1 (D.given drives.old) (D.given drives.new) (D.all_back drives.new) }
+    ensures drives { Uses 1 (D.lent drives.old) (D.lent drives.new) }
 {
     let step = redo_step(Change::Adopt, ADOPTED);
     change_image(alloc, drives, image, &[step], out, error)
@@ -241,11 +239,11 @@ pub fn upgrade_volume<M: Medium + Drop, D: Drives<M>, K: Sink + Drop, E: Sink>(
     out: K,
     error: &mut E,
 ) -> (u8, K)
-    requires back { D.all_back drives.old ≡ true }
-    ensures upgraded { UpgradesVolume (sight M.view M.refuses) image.now result.0
+    requires back { (D.lent drives.old).all_back ≡ true }
+    ensures upgraded { UpgradesVolume (sight M.view M.refuses (D.lent drives.old) (D.lent drives.new)) image.now result.0
         (written (K.written out) (K.faults out) (E.written error.old) (E.faults error.old))
         (written (K.written result.1) (K.faults result.1) (E.written error.new) (E.faults error.new)) }
-    ensures drives { UsesDrives 1 (D.given drives.old) (D.given drives.new) (D.all_back drives.new) }
+    ensures drives { Uses 1 (D.lent drives.old) (D.lent drives.new) }
 {
     let step = redo_step(Change::Upgrade, UPGRADED);
     change_image(alloc, drives, image, &[step], out, error)

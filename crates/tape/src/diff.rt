@@ -1,18 +1,18 @@
 //! The job `diff`.
 ghost use Rattle.std.specs.Prelude.{◌≡◌, ◌⊎◌, ◌∷◌, true, [], IfOk, Some};
-ghost use Rattle.tape.specs.Images.{sight};
-ghost use Rattle.tape.specs.Lent.{UsesDrives};
+ghost use Rattle.tape.specs.Images.{medium_sight, sight};
+ghost use Rattle.tape_drives.specs.Lending.{Uses};
 ghost use Rattle.tape.specs.Comparing.{AreCollected, AreCollectedIn, CollectsIn, ImagesAreCompared, OtherIsCompared};
 ghost use Rattle.tape.specs.Comparing.{TellsDifferences};
 ghost use Rattle.tape_volumes.specs.declared.ending.Ending.TheVariants as ending;
 ghost use Rattle.tape_volumes.specs.declared.went.Went.TheVariants as went;
 ghost use Rattle.tape_volumes.specs.Outputs.{written};
 
-use crate::images::{Returned, work_on_image};
-use crate::several::Drives;
+use crate::images::{Returned, work_in};
 use crate::whole::read_image;
 use il_ports::{Medium, MemoryMedium, Sink};
 use std::alloc::{AllocError, Global};
+use tape_drives::Drives;
 use tape_jobs::{Collected, Collecting, difference_text};
 use tape_volumes::{Ending, Went, end_on, no_memory, print};
 
@@ -40,10 +40,10 @@ fn memory_drive(alloc: Global, image: &str, bytes: Vec<u8>) -> Result<MemoryMedi
 /// Inserts the image of that name in an empty drive, and collects its files.
 fn collect_in<N: Medium + Drop>(alloc: Global, drive: N, image: &str) -> (Ending, Vec<Collected>)
     requires empty { (N.view drive).record_count ≡ 0 }
-    ensures { CollectsIn (sight N.view N.refuses) drive image.now result.0 result.1.items }
+    ensures { CollectsIn (medium_sight N.view N.refuses) drive image.now result.0 result.1.items }
 {
     let files = Vec::new(alloc);
-    let (ending, returned) = work_on_image(alloc, drive, image, Collecting { files });
+    let (ending, returned) = work_in(alloc, drive, image, Collecting { files });
     let Returned { job, .. } = returned;
     (ending, job.files)
 }
@@ -52,7 +52,7 @@ fn collect_in<N: Medium + Drop>(alloc: Global, drive: N, image: &str) -> (Ending
 fn collect_copy(alloc: Global, image: &str, bytes: Vec<u8>) -> (Ending, Vec<Collected>)
     ensures { (result.0 ≡ ending.Went went.OutOfMemory)
         ⊎ AreCollectedIn
-        (sight ⟦<MemoryMedium as Medium>⟧.view ⟦<MemoryMedium as Medium>⟧.refuses)
+        (medium_sight ⟦<MemoryMedium as Medium>⟧.view ⟦<MemoryMedium as Medium>⟧.refuses)
         image.now bytes.items result.0 result.1.items }
 {
     match memory_drive(alloc, image, bytes) {
@@ -61,22 +61,19 @@ fn collect_copy(alloc: Global, image: &str, bytes: Vec<u8>) -> (Ending, Vec<Coll
     }
 }
 
-/// Reads the image of that name whole, closes it, and collects its files from a copy.
+/// Reads the image of that name whole, closes it, and then collects its files from a copy.
 fn collect_image<M: Medium + Drop, D: Drives<M>>(
     alloc: Global,
     readers: &mut D,
     image: &str,
 ) -> (Ending, Vec<Collected>)
-    requires back { D.all_back readers.old ≡ true }
-    ensures drives { UsesDrives 1 (D.given readers.old) (D.given readers.new) (D.all_back readers.new) }
-    ensures collected { AreCollected (sight M.view M.refuses)
-        (sight ⟦<MemoryMedium as Medium>⟧.view ⟦<MemoryMedium as Medium>⟧.refuses)
+    requires back { (D.lent readers.old).all_back ≡ true }
+    ensures drives { Uses 1 (D.lent readers.old) (D.lent readers.new) }
+    ensures collected { AreCollected (sight M.view M.refuses (D.lent readers.old) (D.lent readers.new))
+        (medium_sight ⟦<MemoryMedium as Medium>⟧.view ⟦<MemoryMedium as Medium>⟧.refuses)
         image.now result.0 result.1.items }
 {
-    let mut drive = readers.drive();
-    let read = read_image(alloc, &mut drive, image);
-    readers.back(drive);
-    match read {
+    match read_image(alloc, readers, image) {
         Ok(bytes) => collect_copy(alloc, image, bytes),
         Err(ending) => (ending, Vec::new(alloc)),
     }
@@ -115,10 +112,10 @@ fn compare_other<M: Medium + Drop, D: Drives<M>, K: Sink, E: Sink>(
     out: &mut K,
     error: &mut E,
 ) -> u8
-    requires back { D.all_back readers.old ≡ true }
-    ensures drives { UsesDrives 1 (D.given readers.old) (D.given readers.new) (D.all_back readers.new) }
-    ensures compared { OtherIsCompared (sight M.view M.refuses)
-        (sight ⟦<MemoryMedium as Medium>⟧.view ⟦<MemoryMedium as Medium>⟧.refuses)
+    requires back { (D.lent readers.old).all_back ≡ true }
+    ensures drives { Uses 1 (D.lent readers.old) (D.lent readers.new) }
+    ensures compared { OtherIsCompared (sight M.view M.refuses (D.lent readers.old) (D.lent readers.new))
+        (medium_sight ⟦<MemoryMedium as Medium>⟧.view ⟦<MemoryMedium as Medium>⟧.refuses)
         image.now other.now files.now result
         (written (K.written out.old) (K.faults out.old) (E.written error.old) (E.faults error.old))
         (written (K.written out.new) (K.faults out.new) (E.written error.new) (E.faults error.new)) }
@@ -140,10 +137,10 @@ pub fn compare_images<M: Medium + Drop, D: Drives<M>, K: Sink, E: Sink>(
     out: &mut K,
     error: &mut E,
 ) -> u8
-    requires back { D.all_back readers.old ≡ true }
-    ensures drives { UsesDrives 2 (D.given readers.old) (D.given readers.new) (D.all_back readers.new) }
-    ensures compared { ImagesAreCompared (sight M.view M.refuses)
-        (sight ⟦<MemoryMedium as Medium>⟧.view ⟦<MemoryMedium as Medium>⟧.refuses)
+    requires back { (D.lent readers.old).all_back ≡ true }
+    ensures drives { Uses 2 (D.lent readers.old) (D.lent readers.new) }
+    ensures compared { ImagesAreCompared (sight M.view M.refuses (D.lent readers.old) (D.lent readers.new))
+        (medium_sight ⟦<MemoryMedium as Medium>⟧.view ⟦<MemoryMedium as Medium>⟧.refuses)
         image.now other.now result
         (written (K.written out.old) (K.faults out.old) (E.written error.old) (E.faults error.old))
         (written (K.written out.new) (K.faults out.new) (E.written error.new) (E.faults error.new)) }

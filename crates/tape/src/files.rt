@@ -1,18 +1,19 @@
 ghost use Rattle.std.specs.Prelude.{true, ◌≡◌};
 ghost use Rattle.tape.specs.Images.{sight};
-ghost use Rattle.tape.specs.Lent.{UsesDrives, one_if};
+ghost use Rattle.tape_drives.specs.Lending.{Uses};
+ghost use Rattle.tape.specs.Lent.{one_if};
 ghost use Rattle.tape.specs.Files.{FileIsRead, ReadsNamedFile};
 ghost use Rattle.tape.specs.Names.{name_spelt};
 ghost use Rattle.tape_jobs.specs.Reading.{HasRoomForFile};
 ghost use Rattle.tape_volumes.specs.Outputs.{written};
 
-use crate::images::{Returned, work_on_image};
+use crate::images::work_on_image;
 use crate::names::name_spelt;
-use crate::several::Drives;
 use il_ports::{Medium, Sink};
 use il_script::Page;
 use lif_dir::Name;
 use std::alloc::Global;
+use tape_drives::Drives;
 use tape_jobs::{Part, Reading, page_for_file};
 use tape_volumes::{no_memory, refuse_name, write_file_ending};
 
@@ -28,12 +29,12 @@ fn read_named<M: Medium + Drop, D: Drives<M>, K: Sink + Drop, E: Sink>(
     out: K,
     error: &mut E,
 ) -> (u8, K)
-    requires back { D.all_back drives.old ≡ true }
+    requires back { (D.lent drives.old).all_back ≡ true }
     requires page { HasRoomForFile page }
-    ensures read { FileIsRead (sight M.view M.refuses) part image.now file.now text.now result.0
+    ensures read { FileIsRead (sight M.view M.refuses (D.lent drives.old) (D.lent drives.new)) part image.now file.now text.now result.0
         (written (K.written out) (K.faults out) (E.written error.old) (E.faults error.old))
         (written (K.written result.1) (K.faults result.1) (E.written error.new) (E.faults error.new)) }
-    ensures drives { UsesDrives 1 (D.given drives.old) (D.given drives.new) (D.all_back drives.new) }
+    ensures drives { Uses 1 (D.lent drives.old) (D.lent drives.new) }
 {
     let name = file;
     let job = Reading {
@@ -42,10 +43,7 @@ fn read_named<M: Medium + Drop, D: Drives<M>, K: Sink + Drop, E: Sink>(
         page,
         out,
     };
-    let drive = drives.drive();
-    let (ending, returned) = work_on_image(alloc, drive, image, job);
-    let Returned { medium, job } = returned;
-    drives.back(medium);
+    let (ending, job) = work_on_image(alloc, drives, image, job);
     write_file_ending(error, image, text, ending);
     (ending.status(), job.out)
 }
@@ -60,11 +58,11 @@ pub fn read_file<M: Medium + Drop, D: Drives<M>, K: Sink + Drop, E: Sink>(
     out: K,
     error: &mut E,
 ) -> (u8, K)
-    requires back { D.all_back drives.old ≡ true }
-    ensures read { ReadsNamedFile (sight M.view M.refuses) part image.now (name_spelt text.now) text.now result.0
+    requires back { (D.lent drives.old).all_back ≡ true }
+    ensures read { ReadsNamedFile (sight M.view M.refuses (D.lent drives.old) (D.lent drives.new)) part image.now (name_spelt text.now) text.now result.0
         (written (K.written out) (K.faults out) (E.written error.old) (E.faults error.old))
         (written (K.written result.1) (K.faults result.1) (E.written error.new) (E.faults error.new)) }
-    ensures drives { UsesDrives (one_if (name_spelt text.now)) (D.given drives.old) (D.given drives.new) (D.all_back drives.new) }
+    ensures drives { Uses (one_if (name_spelt text.now)) (D.lent drives.old) (D.lent drives.new) }
 {
     let Some(file) = name_spelt(text) else {
         return (refuse_name(error, text), out);

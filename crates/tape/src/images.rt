@@ -1,12 +1,14 @@
-ghost use Rattle.std.specs.Prelude.{◌≡◌, None};
+ghost use Rattle.std.specs.Prelude.{◌≡◌, None, true};
 ghost use Rattle.lif_model.specs.Shelf.{IsSize};
-ghost use Rattle.tape.specs.Images.{JobEnds, WorksOnTape};
+ghost use Rattle.tape.specs.Images.{EndsInDrive, JobEnds, WorksOnTape, sight};
+ghost use Rattle.tape_drives.specs.Lending.{Uses};
 ghost use Rattle.tape_volumes.specs.Volumes.{DoneOrNot};
 
 use crate::hosted::Hosted;
 use il_host::{Rig, with_host};
 use il_ports::{Inserted, Medium, New};
 use std::alloc::Global;
+use tape_drives::Drives;
 use tape_volumes::{Ending, VolumeJob, Went};
 
 /// What is returned of a job on one image.
@@ -19,7 +21,7 @@ pub struct Returned<M: Drop, J: Drop> {
 }
 
 /// Opens a host on the tape that is in the drive, and does the job.
-fn work_on_tape<M: Medium + Drop, J: VolumeJob + Drop>(
+pub fn work_on_tape<M: Medium + Drop, J: VolumeJob + Drop>(
     alloc: Global,
     medium: M,
     job: J,
@@ -51,8 +53,8 @@ fn work_on_tape<M: Medium + Drop, J: VolumeJob + Drop>(
     }
 }
 
-/// Does a job on the image of that name, in an empty drive.
-pub fn work_on_image<M: Medium + Drop, J: VolumeJob + Drop>(
+/// Does a job on the image of that name, in this empty drive.
+pub fn work_in<M: Medium + Drop, J: VolumeJob + Drop>(
     alloc: Global,
     mut medium: M,
     name: &str,
@@ -73,4 +75,24 @@ pub fn work_on_image<M: Medium + Drop, J: VolumeJob + Drop>(
         Ok(Inserted::BadSize(_)) => (Ending::ImageTooLarge, Returned { medium, job }),
         Err(_) => (Ending::NotOpened, Returned { medium, job }),
     }
+}
+
+/// Does a job on the image of that name, in a drive that is given for it, and that goes back after it.
+pub fn work_on_image<M: Medium + Drop, D: Drives<M>, J: VolumeJob + Drop>(
+    alloc: Global,
+    drives: &mut D,
+    name: &str,
+    job: J,
+) -> (Ending, J)
+    requires back { (D.lent drives.old).all_back ≡ true }
+    requires asks { J.asks job }
+    ensures ends { EndsInDrive (sight M.view M.refuses (D.lent drives.old) (D.lent drives.new))
+        (J.does job result.1) (J.leaves job) (result.1 ≡ job) result.0 name.entry.now }
+    ensures drives { Uses 1 (D.lent drives.old) (D.lent drives.new) }
+{
+    let drive = drives.drive();
+    let (ending, returned) = work_in(alloc, drive, name, job);
+    let Returned { medium, job } = returned;
+    drives.back(medium);
+    (ending, job)
 }

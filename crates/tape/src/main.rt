@@ -4,25 +4,25 @@
 mod changes;
 mod copies;
 mod diff;
-mod drives;
 mod files;
 mod hosted;
 mod images;
 mod mounted;
 mod names;
+mod new;
 mod performing;
 mod several;
 mod showing;
 mod whole;
 mod why;
 
-use drives::{SystemDrives, SystemFolders, SystemReaders};
 use exits::exit;
 use il_ports::StdSink;
 use performing::perform;
 use std::io::IsTerminal;
 use std::process::ExitCode;
 use std::{env, io};
+use tape_drives::{SystemDrives, SystemFolders, SystemMakers, SystemReaders};
 use tape_jobs::Progress;
 
 /// The arguments after the program's name.
@@ -36,6 +36,7 @@ fn main(rt: HostRuntime) -> ExitCode {
     let mut drives = SystemDrives::new(&rt);
     let mut readers = SystemReaders::new(&rt);
     let mut folders = SystemFolders::new(&rt);
+    let mut makers = SystemMakers::new(&rt);
     let progress = Progress {
         terminal: rt.stderr().is_terminal().then(|| StdSink::new(rt.stderr())),
     };
@@ -46,6 +47,7 @@ fn main(rt: HostRuntime) -> ExitCode {
         &mut drives,
         &mut readers,
         &mut folders,
+        &mut makers,
         progress,
         out,
         &mut error,

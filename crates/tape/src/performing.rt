@@ -1,25 +1,30 @@
-ghost use Rattle.std.specs.Prelude.{◌≡◌, ◌≤◌, ◌+◌, true, IfErr, IfOk, Some, map, string_bytes};
+ghost use Rattle.std.specs.Prelude.{◌≡◌, true, IfErr, IfOk, Some, map, string_bytes};
 ghost use Rattle.std.specs.IoError.{error_kind};
 ghost use Rattle.exits.specs.Statuses.{IsUnreadStatus};
-ghost use Rattle.tape.specs.Images.{sight};
+ghost use Rattle.tape.specs.Images.{medium_sight, sight};
 ghost use Rattle.tape_words.specs.Asked.{job_asked, arguments_in};
 ghost use Rattle.tape_volumes.specs.Messages.{WritesMessage, memory_line, unread_line};
 ghost use Rattle.tape_volumes.specs.Outputs.{written};
-ghost use Rattle.tape.specs.Lent.{UsesDrives, drives_for, folders_for, readers_for};
+ghost use Rattle.tape.specs.Copies.{folder_sight};
+ghost use Rattle.tape.specs.Lent.{drives_for, folders_for, makers_for, readers_for};
+ghost use Rattle.tape_drives.specs.Lending.{Uses};
+ghost use Rattle.tape.specs.New.{maker_sight};
 ghost use Rattle.tape.specs.Performing.{DoesAsked, Explains, PerformsAsked, wanted_in};
 ghost use Rattle.tape.specs.Shown.{map_style};
 
 use crate::changes::{adopt_volume, purge_files, rename_file, upgrade_volume};
-use crate::copies::{Folders, copy_files};
+use crate::copies::copy_files;
 use crate::diff::compare_images;
 use crate::files::read_file;
-use crate::several::{Drives, dir_images};
+use crate::new::new_image;
+use crate::several::dir_images;
 use crate::showing::show_image;
 use crate::why::why_image;
 use exits::{BAD_WORDS, unread_status};
 use il_ports::{Medium, MemoryMedium, Sink};
 use std::alloc::{AllocError, Global};
 use std::io;
+use tape_drives::{Drives, Folders, Makers};
 use tape_folder::Folder;
 use tape_jobs::{Part, Progress, Style};
 use tape_volumes::{no_memory, print, write_message, write_text};
@@ -81,6 +86,8 @@ fn do_job<
     R: Drives<N>,
     F: Folder + Drop,
     G: Folders<F>,
+    O: Medium + Drop,
+    W: Makers<O>,
     P: Sink + Drop,
     K: Sink + Drop,
     E: Sink,
@@ -90,20 +97,26 @@ fn do_job<
     drives: &mut D,
     readers: &mut R,
     folders: &mut G,
+    makers: &mut W,
     progress: Progress<P>,
     out: K,
     error: &mut E,
 ) -> (u8, K)
-    requires drives { D.all_back drives.old ≡ true }
-    requires readers { R.all_back readers.old ≡ true }
-    ensures done { DoesAsked (sight M.view M.refuses) (sight N.view N.refuses)
-        (sight ⟦<MemoryMedium as Medium>⟧.view ⟦<MemoryMedium as Medium>⟧.refuses)
-        F.view (Some (job_asked job.entry)) result.0
+    requires drives { (D.lent drives.old).all_back ≡ true }
+    requires readers { (R.lent readers.old).all_back ≡ true }
+    requires folders { (G.lent folders.old).all_back ≡ true }
+    requires makers { (W.making makers.old).lending.all_back ≡ true }
+    ensures done { DoesAsked (sight M.view M.refuses (D.lent drives.old) (D.lent drives.new))
+        (sight N.view N.refuses (R.lent readers.old) (R.lent readers.new))
+        (medium_sight ⟦<MemoryMedium as Medium>⟧.view ⟦<MemoryMedium as Medium>⟧.refuses)
+        (folder_sight F.view (G.lent folders.old) (G.lent folders.new))
+        (maker_sight O.view (W.making makers.old) (W.making makers.new)) (Some (job_asked job.entry)) result.0
         (written (K.written out) (K.faults out) (E.written error.old) (E.faults error.old))
         (written (K.written result.1) (K.faults result.1) (E.written error.new) (E.faults error.new)) }
-    ensures drives { UsesDrives (drives_for (Some (job_asked job.entry))) (D.given drives.old) (D.given drives.new) (D.all_back drives.new) }
-    ensures readers { UsesDrives (readers_for (Some (job_asked job.entry))) (R.given readers.old) (R.given readers.new) (R.all_back readers.new) }
-    ensures folders { G.given folders.new ≤ G.given folders.old + folders_for (Some (job_asked job.entry)) }
+    ensures drives { Uses (drives_for (Some (job_asked job.entry))) (D.lent drives.old) (D.lent drives.new) }
+    ensures readers { Uses (readers_for (Some (job_asked job.entry))) (R.lent readers.old) (R.lent readers.new) }
+    ensures folders { Uses (folders_for (Some (job_asked job.entry))) (G.lent folders.old) (G.lent folders.new) }
+    ensures makers { Uses (makers_for (Some (job_asked job.entry))) (W.making makers.old).lending (W.making makers.new).lending }
 {
     let mut out = out;
     match job {
@@ -137,6 +150,13 @@ fn do_job<
         }
         Job::Adopt { image } => adopt_volume(alloc, drives, image, out, error),
         Job::Upgrade { image } => upgrade_volume(alloc, drives, image, out, error),
+        Job::New {
+            disc,
+            small,
+            image,
+            label,
+            slots,
+        } => new_image(alloc, makers, disc, small, image, label, slots, out, error),
         Job::Help { topic } => (explain(alloc, topic, &mut out, error), out),
         Job::Version => (print(0, VERSION_TEXT.as_bytes(), &mut out, error), out),
     }
@@ -150,6 +170,8 @@ fn perform_words<
     R: Drives<N>,
     F: Folder + Drop,
     G: Folders<F>,
+    O: Medium + Drop,
+    W: Makers<O>,
     P: Sink + Drop,
     K: Sink + Drop,
     E: Sink,
@@ -159,24 +181,32 @@ fn perform_words<
     drives: &mut D,
     readers: &mut R,
     folders: &mut G,
+    makers: &mut W,
     progress: Progress<P>,
     out: K,
     error: &mut E,
 ) -> (u8, K)
-    requires drives { D.all_back drives.old ≡ true }
-    requires readers { R.all_back readers.old ≡ true }
-    ensures done { PerformsAsked (sight M.view M.refuses) (sight N.view N.refuses)
-        (sight ⟦<MemoryMedium as Medium>⟧.view ⟦<MemoryMedium as Medium>⟧.refuses)
-        F.view (arguments_in (map string_bytes words.now)) result.0
+    requires drives { (D.lent drives.old).all_back ≡ true }
+    requires readers { (R.lent readers.old).all_back ≡ true }
+    requires folders { (G.lent folders.old).all_back ≡ true }
+    requires makers { (W.making makers.old).lending.all_back ≡ true }
+    ensures done { PerformsAsked (sight M.view M.refuses (D.lent drives.old) (D.lent drives.new))
+        (sight N.view N.refuses (R.lent readers.old) (R.lent readers.new))
+        (medium_sight ⟦<MemoryMedium as Medium>⟧.view ⟦<MemoryMedium as Medium>⟧.refuses)
+        (folder_sight F.view (G.lent folders.old) (G.lent folders.new))
+        (maker_sight O.view (W.making makers.old) (W.making makers.new)) (arguments_in (map string_bytes words.now)) result.0
         (written (K.written out) (K.faults out) (E.written error.old) (E.faults error.old))
         (written (K.written result.1) (K.faults result.1) (E.written error.new) (E.faults error.new)) }
-    ensures drives { UsesDrives (drives_for (arguments_in (map string_bytes words.now))) (D.given drives.old) (D.given drives.new) (D.all_back drives.new) }
-    ensures readers { UsesDrives (readers_for (arguments_in (map string_bytes words.now))) (R.given readers.old) (R.given readers.new) (R.all_back readers.new) }
-    ensures folders { G.given folders.new ≤ G.given folders.old + folders_for (arguments_in (map string_bytes words.now)) }
+    ensures drives { Uses (drives_for (arguments_in (map string_bytes words.now))) (D.lent drives.old) (D.lent drives.new) }
+    ensures readers { Uses (readers_for (arguments_in (map string_bytes words.now))) (R.lent readers.old) (R.lent readers.new) }
+    ensures folders { Uses (folders_for (arguments_in (map string_bytes words.now))) (G.lent folders.old) (G.lent folders.new) }
+    ensures makers { Uses (makers_for (arguments_in (map string_bytes words.now))) (W.making makers.old).lending (W.making makers.new).lending }
 {
     match parse(alloc, words) {
         Ok(matches) => match job_of(&matches) {
-            Some(job) => do_job(alloc, job, drives, readers, folders, progress, out, error),
+            Some(job) => do_job(
+                alloc, job, drives, readers, folders, makers, progress, out, error,
+            ),
             None => (refuse(missing(alloc, &matches), error), out),
         },
         Err(NotRead::Refused(text)) => (refuse(Ok(text), error), out),
@@ -185,7 +215,7 @@ fn perform_words<
 }
 
 /// The program over standard output and standard error, over the drives that it inserts images in, those that only read
-/// them, and the folders that it copies files into. `progress` shows which file is copied. It returns the exit status,
+/// them, the folders that it copies files into, and the drives that new images are made for. `progress` shows which file is copied. It returns the exit status,
 /// and standard output.
 pub fn perform<
     M: Medium + Drop,
@@ -194,6 +224,8 @@ pub fn perform<
     R: Drives<N>,
     F: Folder + Drop,
     G: Folders<F>,
+    O: Medium + Drop,
+    W: Makers<O>,
     P: Sink + Drop,
     K: Sink + Drop,
     E: Sink,
@@ -203,28 +235,34 @@ pub fn perform<
     drives: &mut D,
     readers: &mut R,
     folders: &mut G,
+    makers: &mut W,
     progress: Progress<P>,
     out: K,
     error: &mut E,
 ) -> (u8, K)
-    requires drives { D.all_back drives.old ≡ true }
-    requires readers { R.all_back readers.old ≡ true }
+    requires drives { (D.lent drives.old).all_back ≡ true }
+    requires readers { (R.lent readers.old).all_back ≡ true }
+    requires folders { (G.lent folders.old).all_back ≡ true }
+    requires makers { (W.making makers.old).lending.all_back ≡ true }
     ensures unread { IfErr words (λ e. IsUnreadStatus (error_kind e) result.0 × (result.1 ≡ out)
         × WritesMessage unread_line
         (E.written error.old) (E.written error.new) (E.faults error.old) (E.faults error.new)) }
     ensures asked { IfOk words (λ list.
-        PerformsAsked (sight M.view M.refuses) (sight N.view N.refuses)
-        (sight ⟦<MemoryMedium as Medium>⟧.view ⟦<MemoryMedium as Medium>⟧.refuses)
-        F.view (arguments_in (map string_bytes list.items)) result.0
+        PerformsAsked (sight M.view M.refuses (D.lent drives.old) (D.lent drives.new))
+        (sight N.view N.refuses (R.lent readers.old) (R.lent readers.new))
+        (medium_sight ⟦<MemoryMedium as Medium>⟧.view ⟦<MemoryMedium as Medium>⟧.refuses)
+        (folder_sight F.view (G.lent folders.old) (G.lent folders.new))
+        (maker_sight O.view (W.making makers.old) (W.making makers.new)) (arguments_in (map string_bytes list.items)) result.0
         (written (K.written out) (K.faults out) (E.written error.old) (E.faults error.old))
         (written (K.written result.1) (K.faults result.1) (E.written error.new) (E.faults error.new))) }
-    ensures drives { UsesDrives (drives_for (wanted_in words)) (D.given drives.old) (D.given drives.new) (D.all_back drives.new) }
-    ensures readers { UsesDrives (readers_for (wanted_in words)) (R.given readers.old) (R.given readers.new) (R.all_back readers.new) }
-    ensures folders { G.given folders.new ≤ G.given folders.old + folders_for (wanted_in words) }
+    ensures drives { Uses (drives_for (wanted_in words)) (D.lent drives.old) (D.lent drives.new) }
+    ensures readers { Uses (readers_for (wanted_in words)) (R.lent readers.old) (R.lent readers.new) }
+    ensures folders { Uses (folders_for (wanted_in words)) (G.lent folders.old) (G.lent folders.new) }
+    ensures makers { Uses (makers_for (wanted_in words)) (W.making makers.old).lending (W.making makers.new).lending }
 {
     match words {
         Ok(words) => perform_words(
-            alloc, &words, drives, readers, folders, progress, out, error,
+            alloc, &words, drives, readers, folders, makers, progress, out, error,
         ),
         Err(unread) => (refuse_unread(&unread, error), out),
     }

@@ -2,37 +2,16 @@ ghost use Rattle.std.specs.Prelude.{◌≡◌, ◌==◌, ◌||◌, ◌&&◌, if�
 ghost use Rattle.tape.specs.Images.{sight};
 ghost use Rattle.tape_volumes.specs.Endings.{is_last, is_done as done};
 ghost use Rattle.tape_volumes.specs.Outputs.{written};
-ghost use Rattle.tape.specs.Lent.{UsesDrives};
+ghost use Rattle.tape_drives.specs.Lending.{Uses};
 ghost use Rattle.tape.specs.Several.{DirDone, DirsEnd, ImageListed, IsStyleFor};
 
-use crate::images::{Returned, work_on_image};
+use crate::images::work_on_image;
 use il_ports::{Medium, Sink, write_all};
 use std::alloc::Global;
+use tape_drives::Drives;
 use tape_jobs::{Listing, Style};
 use tape_text::first_csv_row;
 use tape_volumes::{Ending, output_lost, write_ending};
-
-/// Where drives come from: each image is inserted in a drive of its own.
-pub trait Drives<M: Medium> {
-    ghost use Rattle.std.specs.Prelude.{◌≡◌, ◌≤◌, ◌+◌, ℕ, Bool, true};
-
-    // How many drives were given, or fewer.
-    ghost given: { Self → ℕ };
-
-    // Each drive that was given is back.
-    ghost all_back: { Self → Bool };
-
-    /// Gives an empty drive. Each one that was given before is back.
-    fn drive(&mut self) -> M
-        requires { all_back self.old ≡ true }
-        ensures empty { (M.view result).record_count ≡ 0 }
-        ensures given { given self.new ≤ given self.old + 1 };
-
-    /// Takes a drive back.
-    fn back(&mut self, drive: M)
-        ensures given { given self.new ≤ given self.old }
-        ensures back { all_back self.new ≡ true };
-}
 
 /// How one of `count` images is listed.
 fn style_for(csv: bool, count: usize, name: &str) -> Style<'_>
@@ -58,17 +37,14 @@ fn dir_one<M: Medium + Drop, D: Drives<M>, K: Sink + Drop, E: Sink>(
     out: K,
     error: &mut E,
 ) -> (Ending, K)
-    requires back { D.all_back drives.old ≡ true }
-    ensures listed { ImageListed (sight M.view M.refuses) csv count all name.now result.0
+    requires back { (D.lent drives.old).all_back ≡ true }
+    ensures listed { ImageListed (sight M.view M.refuses (D.lent drives.old) (D.lent drives.new)) csv count all name.now result.0
         (written (K.written out) (K.faults out) (E.written error.old) (E.faults error.old))
         (written (K.written result.1) (K.faults result.1) (E.written error.new) (E.faults error.new)) }
-    ensures drives { UsesDrives 1 (D.given drives.old) (D.given drives.new) (D.all_back drives.new) }
+    ensures drives { Uses 1 (D.lent drives.old) (D.lent drives.new) }
 {
     let style = style_for(csv, count, name);
-    let drive = drives.drive();
-    let (ending, returned) = work_on_image(alloc, drive, name, Listing { style, all, out });
-    let Returned { medium, job } = returned;
-    drives.back(medium);
+    let (ending, job) = work_on_image(alloc, drives, name, Listing { style, all, out });
     write_ending(error, name, ending);
     (ending, job.out)
 }
@@ -104,11 +80,11 @@ fn dir_each<M: Medium + Drop, D: Drives<M>, K: Sink + Drop, E: Sink>(
     out: K,
     error: &mut E,
 ) -> (u8, K)
-    requires back { D.all_back drives.old ≡ true }
-    ensures listed { DirsEnd (sight M.view M.refuses) csv all (map (λ name. name.now) names.now) result.0
+    requires back { (D.lent drives.old).all_back ≡ true }
+    ensures listed { DirsEnd (sight M.view M.refuses (D.lent drives.old) (D.lent drives.new)) csv all (map (λ name. name.now) names.now) result.0
         (written (K.written out) (K.faults out) (E.written error.old) (E.faults error.old))
         (written (K.written result.1) (K.faults result.1) (E.written error.new) (E.faults error.new)) }
-    ensures drives { UsesDrives (length names.now) (D.given drives.old) (D.given drives.new) (D.all_back drives.new) }
+    ensures drives { Uses (length names.now) (D.lent drives.old) (D.lent drives.new) }
 {
     let mut out = out;
     let mut is_done = true;
@@ -133,11 +109,11 @@ pub fn dir_images<M: Medium + Drop, D: Drives<M>, K: Sink + Drop, E: Sink>(
     out: K,
     error: &mut E,
 ) -> (u8, K)
-    requires back { D.all_back drives.old ≡ true }
-    ensures listed { DirDone (sight M.view M.refuses) csv all (map (λ name. name.now) names.now) result.0
+    requires back { (D.lent drives.old).all_back ≡ true }
+    ensures listed { DirDone (sight M.view M.refuses (D.lent drives.old) (D.lent drives.new)) csv all (map (λ name. name.now) names.now) result.0
         (written (K.written out) (K.faults out) (E.written error.old) (E.faults error.old))
         (written (K.written result.1) (K.faults result.1) (E.written error.new) (E.faults error.new)) }
-    ensures drives { UsesDrives (length names.now) (D.given drives.old) (D.given drives.new) (D.all_back drives.new) }
+    ensures drives { Uses (length names.now) (D.lent drives.old) (D.lent drives.new) }
 {
     let mut out = out;
     if csv && write_all(&mut out, first_csv_row()).is_err() {

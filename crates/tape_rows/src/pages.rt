@@ -17,6 +17,7 @@ Jobs:
   map      Prints a picture of the records of IMAGE
   why      Prints why IMAGE can or cannot be listed and changed
   diff     Compares the files of IMAGE with those of OTHER
+  new      Makes a new image of a tape or a disc, with a volume
   purge    Purges files of IMAGE
   rename   Gives a file of IMAGE another name
   adopt    Gives a volume of another program its redo file
@@ -134,6 +135,22 @@ Options:
       --help  Print this page
 ";
 
+const NEW: &str = "\
+Makes a new image of a tape or a disc, with a volume
+
+Usage: tape new [OPTIONS] IMAGE LABEL SLOTS
+
+Arguments:
+  [IMAGE]  The image file to make; a file that exists is never changed
+  [LABEL]  The volume's label: 1 to 6 of A-Z, 0-9 and _, a letter first; %HH is the byte HH hex
+  [SLOTS]  How many slots the directory has at least, 1 to 19664; the redo file takes one
+
+Options:
+      --disc   Make a disc of 630,784 bytes, not a tape of 131,072 bytes
+      --small  Make a redo file of 4 records, not 34: no file can be replaced before 'tape upgrade'
+      --help   Print this page
+";
+
 const PURGE: &str = "\
 Purges files of IMAGE
 
@@ -209,6 +226,7 @@ fn each_page_is_printed(rt: HostRuntime) -> Result<(), Fail> {
         (Some(Topic::Map), MAP),
         (Some(Topic::Why), WHY),
         (Some(Topic::Diff), DIFF),
+        (Some(Topic::New), NEW),
         (Some(Topic::Purge), PURGE),
         (Some(Topic::Rename), RENAME),
         (Some(Topic::Adopt), ADOPT),

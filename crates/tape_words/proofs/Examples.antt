@@ -3,7 +3,7 @@ use Rattle.std.proofs.Common.{◌≡◌, [], ◌∷◌, Some, None, true, false,
 use Rattle.clap.proofs.OnLiterals.{clap_on_literals}
 use Rattle.tape_words.specs.declared.jobs.Topic.TheVariants as topic
 use Rattle.tape_words.specs.Simple.{tape_app}
-use Rattle.tape_words.specs.Asked.{Dir, Out, Get, Raw, Free, Map, Why, Diff, Help, Version, arguments_in}
+use Rattle.tape_words.specs.Asked.{Dir, Out, Get, Raw, Free, Map, Why, Diff, New, Help, Version, arguments_in}
 
 listing : arguments_in (codes "dir" ∷ codes "TAPE" ∷ []) ≡ Some (Dir false false (codes "TAPE" ∷ []))
 unfolding tape_app clap_on_literals
@@ -53,6 +53,14 @@ two_images : (arguments_in (codes "diff" ∷ codes "A" ∷ codes "B" ∷ []) ≡
     × (arguments_in (codes "diff" ∷ codes "A" ∷ []) ≡ None)
 unfolding tape_app clap_on_literals
 two_images = (refl, refl)
+
+-- the options may stand anywhere, and each of the three arguments is needed
+new_images : (arguments_in (codes "new" ∷ codes "TAPE" ∷ codes "HPTAPE" ∷ codes "16" ∷ []) ≡ Some (New false false (codes "TAPE") (codes "HPTAPE") (codes "16")))
+    × (arguments_in (codes "new" ∷ codes "--small" ∷ codes "TAPE" ∷ codes "L" ∷ codes "9" ∷ []) ≡ Some (New false true (codes "TAPE") (codes "L") (codes "9")))
+    × (arguments_in (codes "new" ∷ codes "DISC" ∷ codes "L" ∷ codes "--disc" ∷ codes "9" ∷ []) ≡ Some (New true false (codes "DISC") (codes "L") (codes "9")))
+    × (arguments_in (codes "new" ∷ codes "TAPE" ∷ codes "HPTAPE" ∷ []) ≡ None)
+unfolding tape_app clap_on_literals
+new_images = (refl, refl, refl, refl)
 
 helps : (arguments_in (codes "help" ∷ []) ≡ Some (Help None)) × (arguments_in (codes "--help" ∷ []) ≡ Some (Help None))
     × (arguments_in (codes "help" ∷ codes "dir" ∷ []) ≡ Some (Help (Some topic.Dir)))

@@ -31,6 +31,8 @@ pub data Wanted : Type 0 where
   Why : (image : Text) → Wanted
   -- how the files of the two images differ
   Diff : (image other : Text) → Wanted
+  -- a new image with a volume of this label: of a disc or of a tape, with a small redo file or a large one
+  New : (disc small : Bool) (image label slots : Text) → Wanted
   -- the files of these names purged
   Purge : (image : Text) (names : List Text) → Wanted
   -- a file renamed
@@ -43,10 +45,11 @@ pub data Wanted : Type 0 where
   Help : (topic : Option Topic) → Wanted
   Version : Wanted
 
--- the job of this name, if it changes an image; or that of help
+-- the job of this name, if it makes or changes an image; or that of help
 abbrev pub changing_topic : Text → Option Topic
 changing_topic name =
-    if bytes_eq name (codes "purge") then Some topic.Purge
+    if bytes_eq name (codes "new") then Some topic.New
+    else if bytes_eq name (codes "purge") then Some topic.Purge
     else if bytes_eq name (codes "rename") then Some topic.Rename
     else if bytes_eq name (codes "adopt") then Some topic.Adopt
     else if bytes_eq name (codes "upgrade") then Some topic.Upgrade
@@ -93,6 +96,9 @@ asked_for topic.Free rows = option_map Free (first_of (codes "image") rows)
 asked_for topic.Map rows = option_map (Map (is_switched_on (codes "svg") rows)) (first_of (codes "image") rows)
 asked_for topic.Why rows = option_map Why (first_of (codes "image") rows)
 asked_for topic.Diff rows = option_map (λ p. Diff p.0 p.1) (pair_in (codes "image") (codes "other") rows)
+asked_for topic.New rows =
+    option_map (λ t. New (is_switched_on (codes "disc") rows) (is_switched_on (codes "small") rows) t.0 t.1 t.2)
+    (triple_in (codes "image") (codes "label") (codes "slots") rows)
 asked_for topic.Purge rows =
     option_and_then (λ i. option_map (Purge i) (all_of (codes "names") rows)) (first_of (codes "image") rows)
 asked_for topic.Rename rows =
@@ -101,8 +107,9 @@ asked_for topic.Adopt rows = option_map Adopt (first_of (codes "image") rows)
 asked_for topic.Upgrade rows = option_map Upgrade (first_of (codes "image") rows)
 asked_for topic.Help rows = help_in (first_of (codes "job") rows)
 
--- a job that changes an image, or help
+-- a job that makes or changes an image, or help
 abbrev pub changes_or_helps : Topic → Bool
+changes_or_helps topic.New = true
 changes_or_helps topic.Purge = true
 changes_or_helps topic.Rename = true
 changes_or_helps topic.Adopt = true
@@ -144,6 +151,7 @@ job_asked (job.Free image) = Free image.now
 job_asked (job.Map svg image) = Map svg image.now
 job_asked (job.Why image) = Why image.now
 job_asked (job.Diff image other) = Diff image.now other.now
+job_asked (job.New disc small image label slots) = New disc small image.now label.now slots.now
 job_asked (job.Purge image names) = Purge image.now (map (λ s. s.now) names.now)
 job_asked (job.Rename image old new) = Rename image.now old.now new.now
 job_asked (job.Adopt image) = Adopt image.now

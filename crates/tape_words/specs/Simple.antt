@@ -57,6 +57,16 @@ abbrev pub diff_app : App
 diff_app = with_rule (with_rule (with_rule (plain_app (codes "diff")) (one_rule (codes "image"))) (one_rule (codes "other")))
     (switch_rule (codes "help"))
 
+-- the arguments of `new` that are not options: `new IMAGE LABEL SLOTS`
+abbrev pub new_volume_app : App
+new_volume_app = with_rule (with_rule (with_rule (plain_app (codes "new")) (one_rule (codes "image"))) (one_rule (codes "label")))
+    (one_rule (codes "slots"))
+
+-- `new [--disc] [--small] [--help] IMAGE LABEL SLOTS`
+abbrev pub new_image_app : App
+new_image_app = with_rule (with_rule (with_rule new_volume_app (switch_rule (codes "disc"))) (switch_rule (codes "small")))
+    (switch_rule (codes "help"))
+
 -- `purge [--help] IMAGE NAME..`
 abbrev pub purge_app : App
 purge_app = with_rule (with_rule (with_rule (plain_app (codes "purge")) (one_rule (codes "image"))) (several_rule (codes "names")))
@@ -80,6 +90,7 @@ app_for topic.Free = image_app (codes "free")
 app_for topic.Map = map_app
 app_for topic.Why = image_app (codes "why")
 app_for topic.Diff = diff_app
+app_for topic.New = new_image_app
 app_for topic.Purge = purge_app
 app_for topic.Rename = rename_app
 app_for topic.Adopt = image_app (codes "adopt")
@@ -104,9 +115,13 @@ abbrev pub telling_app : App
 telling_app = with_subcommand (with_subcommand (with_subcommand (with_subcommand reading_app
     (app_for topic.Free).top) (app_for topic.Map).top) (app_for topic.Why).top) (app_for topic.Diff).top
 
+-- and with the one that makes an image
+abbrev pub making_app : App
+making_app = with_subcommand telling_app (app_for topic.New).top
+
 -- and with those that change images
 abbrev pub changing_app : App
-changing_app = with_subcommand (with_subcommand (with_subcommand (with_subcommand telling_app
+changing_app = with_subcommand (with_subcommand (with_subcommand (with_subcommand making_app
     (app_for topic.Purge).top) (app_for topic.Rename).top) (app_for topic.Adopt).top) (app_for topic.Upgrade).top
 
 unfoldable pub tape_app : App

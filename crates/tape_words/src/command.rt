@@ -2,6 +2,7 @@ ghost use Rattle.std.specs.Prelude.{◌≡◌, ◌≢◌, true, IfOk, IfErr, Non
 ghost use Rattle.std.specs.String.{string_bytes};
 ghost use Rattle.clap.specs.Words.{found_of, rows_of, first_of, all_of, subcommand_rows_of};
 ghost use Rattle.clap.specs.declared.error.kind.ErrorKind.TheVariants as kinds;
+ghost use Rattle.tape_words.specs.declared.jobs.Topic.TheVariants as topics;
 ghost use Rattle.tape_words.specs.Simple.{is_switched_on};
 ghost use Rattle.tape_words.specs.Asked.{IfRefused, arguments_in, job_asked, job_found_in, told_by};
 ghost use Rattle.tape_words.specs.Asked.{asked_as, asked_for, changes_or_helps, help_in, pair_in, triple_in};
@@ -126,12 +127,27 @@ fn help_for<'r>(name: Option<&str>) -> Option<Job<'r>>
     Some(Job::Help { topic })
 }
 
-/// The job that changes an image, with the arguments that were found for it; or that of help.
+/// The job that makes an image, with the arguments that were found for it.
+fn new_job<'r, 'a>(found: &'r ArgMatches<'a>) -> Option<Job<'r>>
+    ensures { option_map job_asked result ≡ asked_for topics.New (rows_of (found_of found.now)) }
+{
+    let (image, label, slots) = triple(found, "image", "label", "slots")?;
+    Some(Job::New {
+        disc: is_switched_on(found, "disc"),
+        small: is_switched_on(found, "small"),
+        image,
+        label,
+        slots,
+    })
+}
+
+/// The job that makes or changes an image, with the arguments that were found for it; or that of help.
 fn changing_job<'r, 'a>(topic: Topic, found: &'r ArgMatches<'a>) -> Option<Job<'r>>
     requires { changes_or_helps topic ≡ true }
     ensures { option_map job_asked result ≡ asked_for topic (rows_of (found_of found.now)) }
 {
     match topic {
+        Topic::New => new_job(found),
         Topic::Purge => {
             let image = value(found, "image")?;
             let names = values(found, "names")?;

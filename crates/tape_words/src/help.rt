@@ -41,6 +41,7 @@ fn needs(topic: Topic) -> &'static str {
         Topic::Get | Topic::Raw => "IMAGE and NAME",
         Topic::Free | Topic::Map | Topic::Why | Topic::Adopt | Topic::Upgrade => "IMAGE",
         Topic::Diff => "IMAGE and OTHER",
+        Topic::New => "IMAGE, LABEL and SLOTS",
         Topic::Purge => "IMAGE and at least one NAME",
         Topic::Rename => "IMAGE, OLD and NEW",
         Topic::Help => "no argument",

@@ -20,6 +20,8 @@ pub enum Topic {
     Why,
     /// `tape diff`.
     Diff,
+    /// `tape new`.
+    New,
     /// `tape purge`.
     Purge,
     /// `tape rename`.
@@ -91,6 +93,20 @@ pub enum Job<'a> {
         /// The name of the second image.
         other: &'a str,
     },
+    /// Makes a new image with a volume.
+    New {
+        /// Whether the image is one of a disc, of 630,784 bytes. If it is not, it is one of a tape, of 131,072 bytes.
+        disc: bool,
+        /// Whether the redo file stays one of version 1, which has 4 records. If it does not, it is one of version 2,
+        /// which has 34.
+        small: bool,
+        /// The name of the image.
+        image: &'a str,
+        /// The label of the volume.
+        label: &'a str,
+        /// How many slots the directory has at least: any text, which need not be a number.
+        slots: &'a str,
+    },
     /// Purges files of an image.
     Purge {
         /// The name of the image.
@@ -157,10 +173,13 @@ pub(crate) fn topic_of(name: &str) -> Option<Topic>
     changing_topic(name)
 }
 
-/// The job of this name, if it changes an image; or that of help.
+/// The job of this name, if it makes or changes an image; or that of help.
 fn changing_topic(name: &str) -> Option<Topic>
     ensures { result ≡ changing_topic name.now }
 {
+    if name == "new" {
+        return Some(Topic::New);
+    }
     if name == "purge" {
         return Some(Topic::Purge);
     }

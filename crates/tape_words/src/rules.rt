@@ -1,9 +1,11 @@
-ghost use Rattle.std.specs.Prelude.{◌≡◌, IfOk, false};
+ghost use Rattle.std.specs.Prelude.{◌≡◌, IfOk, true, false};
 ghost use Rattle.clap.specs.Words.{app_of, rule_of};
 ghost use Rattle.clap.specs.declared.builder.command.Command.TheViews.{out-Command};
 ghost use Rattle.tape_words.specs.Simple.{switch_rule, one_rule, several_rule};
 ghost use Rattle.tape_words.specs.Simple.{plain_app, dir_app, out_app, file_app, image_app, map_app, diff_app, help_app, purge_app, rename_app};
+ghost use Rattle.tape_words.specs.Simple.{new_volume_app, new_image_app};
 ghost use Rattle.tape_words.specs.Simple.{app_for};
+ghost use Rattle.tape_words.specs.Asked.{changes_or_helps};
 ghost use Rattle.tape_words.specs.Simple.{top_app, program_app, tape_app, page_app};
 
 use crate::jobs::Topic;
@@ -15,6 +17,21 @@ const IMAGE_HELP: &str = "The image file";
 
 /// What a page of help says of NAME.
 const NAME_HELP: &str = "The name of a file; %HH is the byte HH hex";
+
+/// What a page of help says of LABEL.
+const LABEL_HELP: &str =
+    "The volume's label: 1 to 6 of A-Z, 0-9 and _, a letter first; %HH is the byte HH hex";
+
+/// What a page of help says of SLOTS.
+const SLOTS_HELP: &str =
+    "How many slots the directory has at least, 1 to 19664; the redo file takes one";
+
+/// What a page of help says of `--disc`.
+const DISC_HELP: &str = "Make a disc of 630,784 bytes, not a tape of 131,072 bytes";
+
+/// What a page of help says of `--small`.
+const SMALL_HELP: &str =
+    "Make a redo file of 4 records, not 34: no file can be replaced before 'tape upgrade'";
 
 /// An option without a value.
 fn flag<'a>(alloc: Global, id: &'a str, help: &'a str) -> Arg<'a>
@@ -191,6 +208,39 @@ fn help<'a>(alloc: Global) -> Result<Command<'a>, AllocError>
     Ok(command)
 }
 
+/// The command of `new`, without its options.
+fn new_volume<'a>(alloc: Global) -> Result<Command<'a>, AllocError>
+    ensures app { IfOk result (λ c. app_of c ≡ new_volume_app) }
+    ensures local { IfOk result (λ c. (out-Command c).has_globals ≡ false) }
+{
+    let command = plain(
+        alloc,
+        "new",
+        "Makes a new image of a tape or a disc, with a volume",
+        "tape new [OPTIONS] IMAGE LABEL SLOTS",
+    )
+    .arg(one(
+        alloc,
+        "image",
+        "IMAGE",
+        "The image file to make; a file that exists is never changed",
+    ))?
+    .arg(one(alloc, "label", "LABEL", LABEL_HELP))?
+    .arg(one(alloc, "slots", "SLOTS", SLOTS_HELP))?;
+    Ok(command)
+}
+
+fn new_image<'a>(alloc: Global) -> Result<Command<'a>, AllocError>
+    ensures app { IfOk result (λ c. app_of c ≡ new_image_app) }
+    ensures local { IfOk result (λ c. (out-Command c).has_globals ≡ false) }
+{
+    let command = new_volume(alloc)?
+        .arg(flag(alloc, "disc", DISC_HELP))?
+        .arg(flag(alloc, "small", SMALL_HELP))?
+        .arg(flag(alloc, "help", "Print this page"))?;
+    Ok(command)
+}
+
 fn purge<'a>(alloc: Global) -> Result<Command<'a>, AllocError>
     ensures app { IfOk result (λ c. app_of c ≡ purge_app) }
     ensures local { IfOk result (λ c. (out-Command c).has_globals ≡ false) }
@@ -229,6 +279,32 @@ fn rename<'a>(alloc: Global) -> Result<Command<'a>, AllocError>
     Ok(command)
 }
 
+/// The command that takes the arguments of a job that makes or changes an image, or of help.
+fn changing_command<'a>(alloc: Global, topic: Topic) -> Result<Command<'a>, AllocError>
+    requires { changes_or_helps topic ≡ true }
+    ensures app { IfOk result (λ c. app_of c ≡ app_for topic) }
+    ensures local { IfOk result (λ c. (out-Command c).has_globals ≡ false) }
+{
+    match topic {
+        Topic::New => new_image(alloc),
+        Topic::Purge => purge(alloc),
+        Topic::Rename => rename(alloc),
+        Topic::Adopt => image(
+            alloc,
+            "adopt",
+            "Gives a volume of another program its redo file",
+            "tape adopt IMAGE",
+        ),
+        Topic::Upgrade => image(
+            alloc,
+            "upgrade",
+            "Makes the redo file large, so that files can be replaced",
+            "tape upgrade IMAGE",
+        ),
+        _ => help(alloc),
+    }
+}
+
 /// The command that takes the arguments of one job.
 pub(crate) fn job_command<'a>(alloc: Global, topic: Topic) -> Result<Command<'a>, AllocError>
     ensures app { IfOk result (λ c. app_of c ≡ app_for topic) }
@@ -263,21 +339,7 @@ pub(crate) fn job_command<'a>(alloc: Global, topic: Topic) -> Result<Command<'a>
             "tape why IMAGE",
         ),
         Topic::Diff => diff(alloc),
-        Topic::Purge => purge(alloc),
-        Topic::Rename => rename(alloc),
-        Topic::Adopt => image(
-            alloc,
-            "adopt",
-            "Gives a volume of another program its redo file",
-            "tape adopt IMAGE",
-        ),
-        Topic::Upgrade => image(
-            alloc,
-            "upgrade",
-            "Makes the redo file large, so that files can be replaced",
-            "tape upgrade IMAGE",
-        ),
-        Topic::Help => help(alloc),
+        topic => changing_command(alloc, topic),
     }
 }
 
@@ -319,6 +381,7 @@ pub(crate) fn command<'a>(alloc: Global) -> Result<Command<'a>, AllocError>
         .subcommand(job_command(alloc, Topic::Map)?)?
         .subcommand(job_command(alloc, Topic::Why)?)?
         .subcommand(job_command(alloc, Topic::Diff)?)?
+        .subcommand(job_command(alloc, Topic::New)?)?
         .subcommand(job_command(alloc, Topic::Purge)?)?
         .subcommand(job_command(alloc, Topic::Rename)?)?
         .subcommand(job_command(alloc, Topic::Adopt)?)?

@@ -19,4 +19,5 @@ returns c =
     let ten = c.in_ok-subcommand-10.ensures.shape c.in_ok-job_command-10.ensures.local ∙ ap₂ with_subcommand nine (ap top c.in_ok-job_command-10.ensures.app) in
     let eleven = c.in_ok-subcommand-11.ensures.shape c.in_ok-job_command-11.ensures.local ∙ ap₂ with_subcommand ten (ap top c.in_ok-job_command-11.ensures.app) in
     let twelve = c.in_ok-subcommand-12.ensures.shape c.in_ok-job_command-12.ensures.local ∙ ap₂ with_subcommand eleven (ap top c.in_ok-job_command-12.ensures.app) in
-    c.in_ok-command.ensures.shape c.in_ok-job_command-13.ensures.local ∙ ap₂ with_subcommand twelve (ap top c.in_ok-job_command-13.ensures.app)
+    let thirteen = c.in_ok-subcommand-13.ensures.shape c.in_ok-job_command-13.ensures.local ∙ ap₂ with_subcommand twelve (ap top c.in_ok-job_command-13.ensures.app) in
+    c.in_ok-command.ensures.shape c.in_ok-job_command-14.ensures.local ∙ ap₂ with_subcommand thirteen (ap top c.in_ok-job_command-14.ensures.app)

@@ -1,6 +1,8 @@
-use crate::copies::Folders;
-use crate::several::Drives;
-use il_ports::{FileMedium, ToChange, ToRead};
+use crate::drives::Drives;
+use crate::folders::Folders;
+use crate::makers::Makers;
+use il_ports::{FileMedium, Images, Size, TapeFile, ToChange, ToRead};
+use made_images::{MadeImage, NotMade};
 use std::alloc::{AllocError, Global};
 use std::fs::File;
 use std::rt::Files;
@@ -23,11 +25,9 @@ impl<R: Files<File = File> + Copy + Drop> SystemDrives<R> {
 
 impl<R: Files<File = File> + Copy + Drop> Drives<FileMedium<SystemFile, SystemImages<R>, ToChange>>
     for SystemDrives<R> {
-    ghost use Rattle.std.specs.Prelude.{true};
+    ghost use Rattle.tape_drives.specs.Lending.{unrecorded};
 
-    ghost given = { λ drives. 0 };
-
-    ghost all_back = { λ drives. true };
+    ghost lent = { λ drives. unrecorded };
 
     fn drive(&mut self) -> FileMedium<SystemFile, SystemImages<R>, ToChange> {
         FileMedium::new(SystemImages::new(self.files))
@@ -51,11 +51,9 @@ impl<R: Files<File = File> + Copy + Drop> SystemReaders<R> {
 
 impl<R: Files<File = File> + Copy + Drop> Drives<FileMedium<SystemFile, SystemImages<R>, ToRead>>
     for SystemReaders<R> {
-    ghost use Rattle.std.specs.Prelude.{true};
+    ghost use Rattle.tape_drives.specs.Lending.{unrecorded};
 
-    ghost given = { λ drives. 0 };
-
-    ghost all_back = { λ drives. true };
+    ghost lent = { λ drives. unrecorded };
 
     fn drive(&mut self) -> FileMedium<SystemFile, SystemImages<R>, ToRead> {
         FileMedium::to_read(SystemImages::new(self.files))
@@ -64,7 +62,7 @@ impl<R: Files<File = File> + Copy + Drop> Drives<FileMedium<SystemFile, SystemIm
     fn back(&mut self, _: FileMedium<SystemFile, SystemImages<R>, ToRead>) {}
 }
 
-/// Folders of the system, by their paths.
+/// Folders of the system, by their paths. A folder that is back is dropped, which closes what it has opened.
 #[derive(Drop)]
 pub struct SystemFolders<R: Files> {
     files: R,
@@ -78,9 +76,52 @@ impl<R: Files<File = File> + Copy + Drop> SystemFolders<R> {
 }
 
 impl<R: Files<File = File> + Copy + Drop> Folders<SystemFolder<R>> for SystemFolders<R> {
-    ghost given = { λ folders. 0 };
+    ghost use Rattle.tape_drives.specs.Lending.{unrecorded};
+
+    ghost lent = { λ folders. unrecorded };
 
     fn folder(&mut self, alloc: Global, path: &str) -> Result<SystemFolder<R>, AllocError> {
         SystemFolder::new(alloc, self.files, path)
+    }
+
+    fn back(&mut self, _: SystemFolder<R>) {}
+}
+
+/// New images as files of the system. A drive that is back is dropped, which closes its image.
+#[derive(Drop)]
+pub struct SystemMakers<R: Files> {
+    files: R,
+}
+
+impl<R: Files<File = File> + Copy + Drop> SystemMakers<R> {
+    /// New images among the files that the runtime gives.
+    pub fn new(files: R) -> SystemMakers<R> {
+        SystemMakers { files }
+    }
+}
+
+impl<R: Files<File = File> + Copy + Drop> Makers<MadeImage<SystemFile, SystemImages<R>>>
+    for SystemMakers<R> {
+    ghost use Rattle.tape_drives.specs.SystemMaking.{making_of};
+
+    ghost making = { λ makers. making_of ⟦<SystemFile as TapeFile>⟧.view ⟦<SystemImages<R> as Images<SystemFile>>⟧.view };
+
+    fn make(
+        &mut self,
+        alloc: Global,
+        name: &str,
+        size: Size,
+    ) -> Result<MadeImage<SystemFile, SystemImages<R>>, NotMade> {
+        match MadeImage::make(alloc, SystemImages::new(self.files), name, size) {
+            Ok(drive) => Ok(drive),
+            Err(refused) => Err(refused.why),
+        }
+    }
+
+    fn keep(&mut self, _: MadeImage<SystemFile, SystemImages<R>>) {}
+
+    fn remove(&mut self, drive: MadeImage<SystemFile, SystemImages<R>>) -> bool {
+        let (removed, _) = drive.remove();
+        removed.is_ok()
     }
 }

@@ -3,7 +3,7 @@ use Rattle.std.specs.Prelude.{Ok}
 use Rattle.il_ports.specs.Media.{DidInsert}
 use Rattle.il_ports.specs.declared.medium.New.TheVariants as making
 use Rattle.tape.proofs.Inserts.{works_on_image}
-use Rattle.tape.proofs.images.work_on_image.Goals as goal
+use Rattle.tape.proofs.images.work_in.Goals as goal
 
 pub returns-in-Ok-Tape : goal.returns-in-Ok-Tape
 returns-in-Ok-Tape g c =

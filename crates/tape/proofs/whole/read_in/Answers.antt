@@ -3,7 +3,7 @@ use Rattle.std.specs.Prelude.{None, Ok}
 use Rattle.il_ports.specs.Media.{DidInsert}
 use Rattle.il_ports.specs.declared.medium.New.TheVariants as making
 use Rattle.tape.proofs.Wholes.{not_read, read_whole}
-use Rattle.tape.proofs.whole.read_image.Goals as goal
+use Rattle.tape.proofs.whole.read_in.Goals as goal
 
 pub returns-in-Ok : goal.returns-in-Ok
 returns-in-Ok g c =
