@@ -17,7 +17,7 @@ use Rattle.il_ports.specs.declared.images.Look.TheVariants as look
 use Rattle.il_ports.specs.declared.images.Naming.TheVariants as naming
 use Rattle.il_ports.specs.declared.tape_file.Access.{Access}
 use Rattle.il_ports.specs.declared.tape_file.Access.TheVariants.{Change, Read}
-use Rattle.made_images.specs.MadeImages.{MadeState, IsItsMaker, IsNewImage, IsMadeAs, medium_of, reason_by, LooksAgain, IsRefused, images_after}
+use Rattle.made_images.specs.MadeImages.{MadeState, IsItsMaker, IsNewImage, IsMadeAs, medium_of, reason_by, LooksAgain, IsNotMade, images_after}
 use Rattle.made_images.specs.declared.making.NotMade.TheVariants as not_made
 
 abbrev one : Type 0
@@ -117,7 +117,7 @@ none_left (Err e) looked is = none_rose looked.cause
 not_left : LooksAgain (codes "A") quiet quiet not_made.Left → ⊥
 not_left again = none_left again.answer again.looked again.why_is
 
-unmade : IsRefused (λ (u : one). unasked) images (codes "A") false false not_made.Failed
+unmade : IsNotMade (λ (u : one). unasked) images (codes "A") false false not_made.Failed
 unmade = record { looked = false; missing = free; fails = record { tried = false; goes_on = same (images false); fails = NotCreated stands; again = failed } }
 
 could_make : MakeFails (λ (u : one). unasked) quiet quiet → ⊥
@@ -126,25 +126,25 @@ could_make (HeldByAnother f made refused) = refused
 could_make (NotLaidOut f g made stays laying (inl rose)) = none_rose rose
 could_make (NotLaidOut f g made stays laying (inr rose)) = none_rose rose
 
-not_failed : IsRefused (λ (u : one). unasked) (λ (b : Bool). quiet) (codes "A") true true not_made.Failed → ⊥
+not_failed : IsNotMade (λ (u : one). unasked) (λ (b : Bool). quiet) (codes "A") true true not_made.Failed → ⊥
 not_failed refused = could_make refused.fails.fails
 
-there : IsRefused (λ (u : one). unasked) images (codes "A") true true not_made.Exists
+there : IsNotMade (λ (u : one). unasked) images (codes "A") true true not_made.Exists
 there = (look.File, record { goes_on = same (images true); unmade = refl; cause = refl; finds = (tt, found) }, λ is. cc)
   where
     found : (s : Shelf) → Some ((codes "A", []) ∷ []) ≡ Some s → is_some (image_of (codes "A") s) ≡ true
     found s is = ap (λ (o : Option Shelf). is_some (image_of (codes "A") (unwrap_or o []))) (sym is)
 
-not_there_at_all : IsRefused (λ (u : one). unasked) (λ (b : Bool). quiet) (codes "A") true true not_made.Exists → ⊥
+not_there_at_all : IsNotMade (λ (u : one). unasked) (λ (b : Bool). quiet) (codes "A") true true not_made.Exists → ⊥
 not_there_at_all refused = refused.2 refused.1.finds.0
 
-was_looked_at : IsRefused (λ (u : one). unasked) (λ (b : Bool). quiet) (codes "A") true true not_made.NotLooked → ⊥
+was_looked_at : IsNotMade (λ (u : one). unasked) (λ (b : Bool). quiet) (codes "A") true true not_made.NotLooked → ⊥
 was_looked_at refused = none_rose refused.1.cause
 
-no_memory : IsRefused (λ (u : one). unasked) images (codes "A") true true not_made.OutOfMemory
+no_memory : IsNotMade (λ (u : one). unasked) images (codes "A") true true not_made.OutOfMemory
 no_memory = refl
 
-other_images : IsRefused (λ (u : one). unasked) images (codes "A") true false not_made.OutOfMemory → ⊥
+other_images : IsNotMade (λ (u : one). unasked) images (codes "A") true false not_made.OutOfMemory → ⊥
 other_images is = let same : false ≡ true = is in cc
 
 after_both : (images_after {F = one} (Ok (drive Change (codes "A"))) ≡ false) × (images_after {F = one} (Err (record { images = true; why = not_made.Exists })) ≡ true)

@@ -87,14 +87,14 @@ pub record IsUnmade {F I : Type 0} (view : F → FileView) (seen : I → ImagesV
 
 -- Why no image was made: the only look found something; or it failed; or an image could not be made whole; or there was
 -- no memory, and nothing was asked.
-abbrev pub IsRefused : {F I : Type 0} → (F → FileView) → (I → ImagesView)
+abbrev pub IsNotMade : {F I : Type 0} → (F → FileView) → (I → ImagesView)
     → List ℕ → I → I → NotMade → Type 0
-IsRefused view seen name old new not_made.Exists =
+IsNotMade view seen name old new not_made.Exists =
     (found : Look) × Looked {E = Error} name (seen old) (seen new) (Ok found) × (found ≢ look.Missing)
-IsRefused view seen name old new not_made.NotLooked = (error : Error) × Looked name (seen old) (seen new) (Err error)
-IsRefused view seen name old new not_made.Failed = IsUnmade view seen name old new not_made.Failed
-IsRefused view seen name old new not_made.Left = IsUnmade view seen name old new not_made.Left
-IsRefused view seen name old new not_made.OutOfMemory = new ≡ old
+IsNotMade view seen name old new not_made.NotLooked = (error : Error) × Looked name (seen old) (seen new) (Err error)
+IsNotMade view seen name old new not_made.Failed = IsUnmade view seen name old new not_made.Failed
+IsNotMade view seen name old new not_made.Left = IsUnmade view seen name old new not_made.Left
+IsNotMade view seen name old new not_made.OutOfMemory = new ≡ old
 
 -- the images after either answer
 abbrev pub images_after : {F I : Type 0} → Result (MadeState F I) (Refused I) → I

@@ -28,7 +28,7 @@ impl<F: TapeFile + Drop, I: Images<F> + Drop> Model for MadeImage<F, I> {
 impl<F: TapeFile + Drop, I: Images<F> + Drop> MadeImage<F, I> {
     ghost use Rattle.std.specs.Prelude.{◌≡◌, IfErr, IfOk};
     ghost use Rattle.il_ports.specs.NamedImages.{ImagesGoOn, Removed};
-    ghost use Rattle.made_images.specs.MadeImages.{IsItsMaker, IsMadeAs, IsRefused, images_after};
+    ghost use Rattle.made_images.specs.MadeImages.{IsItsMaker, IsMadeAs, IsNotMade, images_after};
 
     /// Makes an image of that name and size, in zeros, and inserts it. The name is its path. If something has the name
     /// already, that stays as it is. On success the disk has the image, and it has the name too if the folder can be
@@ -42,7 +42,7 @@ impl<F: TapeFile + Drop, I: Images<F> + Drop> MadeImage<F, I> {
     ) -> Result<MadeImage<F, I>, Refused<I>>
         ensures goes_on { ImagesGoOn (I.view images) (I.view (images_after result)) }
         ensures made { IfOk result (λ made. IsMadeAs F.view I.view name.now size made) }
-        ensures refused { IfErr result (λ refused. IsRefused F.view I.view name.now
+        ensures refused { IfErr result (λ refused. IsNotMade F.view I.view name.now
             images refused.images refused.why) }
     {
         let Ok(kept_name) = String::from_str(alloc, name) else {

@@ -1,7 +1,7 @@
 ghost use Rattle.std.specs.Prelude.{IfErr, IfOk};
 ghost use Rattle.il_ports.specs.NamedImages.{ImagesGoOn};
 ghost use Rattle.il_ports.specs.declared.images.Look.TheVariants as look;
-ghost use Rattle.made_images.specs.MadeImages.{IsNewImage, IsRefused, FailsToMake, LooksAgain};
+ghost use Rattle.made_images.specs.MadeImages.{IsNewImage, IsNotMade, FailsToMake, LooksAgain};
 
 use il_ports::{Images, Look, Size, TapeFile, make_image};
 
@@ -65,7 +65,7 @@ pub(crate) fn make_new<F: TapeFile + Drop, I: Images<F>>(
 ) -> Result<F, NotMade>
     ensures goes_on { ImagesGoOn (I.view images.old) (I.view images.new) }
     ensures made { IfOk result (λ file. IsNewImage name.now size (I.view images.new) (F.view file)) }
-    ensures refused { IfErr result (λ why. IsRefused F.view I.view name.now images.old images.new why) }
+    ensures refused { IfErr result (λ why. IsNotMade F.view I.view name.now images.old images.new why) }
 {
     match images.look(name) {
         Ok(Look::Missing) => make_missing(images, name, size),

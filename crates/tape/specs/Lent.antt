@@ -2,7 +2,7 @@
 use Rattle.std.specs.Prelude.{ℕ, length, Option, Some, None, option_and_then, option_map}
 use Rattle.tape.specs.New.{label_spelt, slots_spelt}
 use Rattle.tape.specs.Names.{name_spelt, names_spelt, new_name_spelt}
-use Rattle.tape_words.specs.Asked.{Wanted, Dir, Out, Get, Raw, Free, Map, Why, Diff, Purge, Rename, Adopt, Upgrade, New}
+use Rattle.tape_words.specs.Asked.{Wanted, Dir, Out, Get, Raw, Free, Map, Why, Diff, Purge, Rename, Adopt, Upgrade, New, Put, Set}
 
 -- one, if the names are spelt that a job needs before it opens an image
 abbrev pub one_if : {X : Type 0} → Option X → ℕ
@@ -25,6 +25,8 @@ drives_for (Some (Purge image names)) = one_if (names_spelt names)
 drives_for (Some (Rename image name name_now)) = one_if (both_arguments (name_spelt name) (new_name_spelt name_now))
 drives_for (Some (Adopt image)) = 1
 drives_for (Some (Upgrade image)) = 1
+drives_for (Some (Put quiet image name)) = one_if (new_name_spelt name)
+drives_for (Some (Set quiet image name)) = one_if (new_name_spelt name)
 drives_for _ = 0
 
 -- how many drives that only read

@@ -12,3 +12,4 @@ pub mod Performing
 pub mod Lent
 pub mod Changes
 pub mod New
+pub mod Texts

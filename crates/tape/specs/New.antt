@@ -38,8 +38,8 @@ abbrev pub maker_sight : {M : Type 0} → (M → MediumView) → (before now : M
 maker_sight view before now = record { view = view; before = before; now = now }
 
 -- no image was made
-abbrev pub IsUnmade : {M : Type 0} → MakerSight M → Type 0
-IsUnmade makers = IsUnused makers.before.lending makers.now.lending
+abbrev pub UsesNoMaker : {M : Type 0} → MakerSight M → Type 0
+UsesNoMaker makers = IsUnused makers.before.lending makers.now.lending
 
 -- ---- the arguments
 
@@ -51,9 +51,9 @@ label_spelt text = option_and_then (λ name. new_label (trimmed (name_bytes name
 abbrev pub slots_spelt : List ℕ → Option ℕ
 slots_spelt text = number_up_to MOST_SLOTS text
 
-abbrev pub size_of : (disc : Bool) → Size
-size_of true = size.Disc
-size_of false = size.Tape
+abbrev pub medium_size : (disc : Bool) → Size
+medium_size true = size.Disc
+medium_size false = size.Tape
 
 -- ---- the steps
 
@@ -123,7 +123,7 @@ not_made_status why = 1
 pub record ImageIsNotMade {M : Type 0} (makers : MakerSight M) (image : List ℕ) (status : ℕ) (old now : Written) : Type 0 where
   pub why : NotMade
   pub refused : makers.now.refused image why
-  pub unmade : IsUnmade makers
+  pub unmade : UsesNoMaker makers
   pub status_is : status ≡ not_made_status why
   pub prints : PrintsNothing old now
   pub says : WritesError (told_line image (not_made_cause why) []) old now
@@ -135,7 +135,7 @@ MakesOrNot makers image size steps status old now = ImageIsNotMade makers image 
 -- An image was made, and steps that say this were taken on it; or none was made; or there was no memory to begin with.
 abbrev pub MakesBy : {M : Type 0} → MakerSight M → (image : List ℕ) → Size → List SaidStep → (status : ℕ) → (old now : Written) → Type 0
 MakesBy makers image size steps status old now =
-    (IsUnmade makers × LacksMemory status old now)
+    (UsesNoMaker makers × LacksMemory status old now)
     ⊎ ((taken : List Step) × (map said taken ≡ steps) × MakesOrNot makers image size taken status old now)
 
 -- ---- the job
@@ -149,7 +149,7 @@ no_slots_line text = told_line text (codes "a directory has 1 to 19664 slots") [
 abbrev pub MakesFor : {M : Type 0} → MakerSight M → (disc small : Bool) → (image : List ℕ) → Option NewLabel → Option ℕ → (label slots : List ℕ) → (status : ℕ) → (old now : Written) → Type 0
 MakesFor makers disc small image None count label slots status old now = RefusesArgument (no_label_line label) status old now
 MakesFor makers disc small image (Some l) None label slots status old now = RefusesArgument (no_slots_line slots) status old now
-MakesFor makers disc small image (Some l) (Some count) label slots status old now = MakesBy makers image (size_of disc) (with_upgrade small (format_step l count small)) status old now
+MakesFor makers disc small image (Some l) (Some count) label slots status old now = MakesBy makers image (medium_size disc) (with_upgrade small (format_step l count small)) status old now
 
 -- A new image of a tape or a disc was made, with a volume of the label and the number of slots that the two texts spell.
 abbrev pub MakesImage : {M : Type 0} → MakerSight M → (disc small : Bool) → (image label slots : List ℕ) → (status : ℕ) → (old now : Written) → Type 0

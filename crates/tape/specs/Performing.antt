@@ -1,7 +1,7 @@
 -- What the program does by its arguments.
-use Rattle.std.specs.Prelude.{◌≡◌, ◌⊎◌, ℕ, List, map, Option, Some, None, Result, Ok, Err, String, Vec, codes, string_bytes}
+use Rattle.std.specs.Prelude.{◌≡◌, ◌⊎◌, ℕ, true, false, List, map, Option, Some, None, Result, Ok, Err, String, Vec, codes, string_bytes}
 use Rattle.std.specs.declared.alloc.Global.{Global}
-use Rattle.tape_words.specs.Asked.{Wanted, Dir, Out, Get, Raw, Free, Map, Why, Diff, Purge, Rename, Adopt, Upgrade, New, Help, Version, arguments_in}
+use Rattle.tape_words.specs.Asked.{Wanted, Dir, Out, Get, Raw, Free, Map, Why, Diff, Purge, Rename, Adopt, Upgrade, New, Put, Set, Help, Version, arguments_in}
 use Rattle.tape_drives.specs.Lending.{IsUnused}
 use Rattle.tape_jobs.specs.declared.listing.Style.TheVariants as style
 use Rattle.tape_jobs.specs.declared.reading.Part.TheVariants.{Bytes, Lines}
@@ -11,7 +11,8 @@ use Rattle.tape.specs.Changes.{AdoptsVolume, PurgesFiles, RenamesFile, UpgradesV
 use Rattle.tape.specs.Copies.{CopiesFiles, FolderSight}
 use Rattle.tape.specs.Files.{ReadsNamedFile}
 use Rattle.tape.specs.Names.{name_spelt}
-use Rattle.tape.specs.New.{IsUnmade, MakerSight, MakesImage}
+use Rattle.tape.specs.New.{UsesNoMaker, MakerSight, MakesImage}
+use Rattle.tape.specs.Texts.{Input, StoresText}
 use Rattle.tape_volumes.specs.Outputs.{LacksMemory, PrintsNothing, PrintsWith, WritesError, Written}
 use Rattle.tape.specs.Several.{DirDone}
 use Rattle.tape.specs.Shown.{VolumeIsShown, map_style}
@@ -30,9 +31,9 @@ abbrev pub wanted_in : {E : Type 0} → Result (Vec (String Global) Global) E �
 wanted_in (Ok words) = arguments_in (map string_bytes words.items)
 wanted_in (Err e) = None
 
--- What is done if this is asked for, over drives, drives that only read, drives in memory, folders, and drives with a new
--- image.
-module _ {M N O F Q : Type 0} (drives : DriveSight M) (readers : DriveSight N) (memory : MediumSight O) (folders : FolderSight F) (makers : MakerSight Q) where
+-- What is done if this is asked for, over drives, drives that only read, drives in memory, folders, drives with a new
+-- image, and standard input.
+module _ {M N O F Q : Type 0} (drives : DriveSight M) (readers : DriveSight N) (memory : MediumSight O) (folders : FolderSight F) (makers : MakerSight Q) (from left : Input) where
   abbrev pub DoesAsked : Option Wanted → (status : ℕ) → Written → Written → Type 0
   DoesAsked None status old now = RefusesArguments status old now
   DoesAsked (Some (Dir all csv images)) status old now = DirDone drives csv all images status old now
@@ -49,11 +50,13 @@ module _ {M N O F Q : Type 0} (drives : DriveSight M) (readers : DriveSight N) (
   DoesAsked (Some (Adopt image)) status old now = AdoptsVolume drives image status old now
   DoesAsked (Some (Upgrade image)) status old now = UpgradesVolume drives image status old now
   DoesAsked (Some (New disc small image label slots)) status old now = MakesImage makers disc small image label slots status old now
+  DoesAsked (Some (Put quiet image name)) status old now = StoresText drives false quiet image name from left status old now
+  DoesAsked (Some (Set quiet image name)) status old now = StoresText drives true quiet image name from left status old now
   DoesAsked (Some (Help topic)) status old now = Explains status old now
   DoesAsked (Some Version) status old now = PrintsWith 0 (codes "tape 1.0\n") status old now
 
   -- The same; or there was no memory to begin with, and no drive, no folder and no new image was used.
   abbrev pub PerformsAsked : Option Wanted → (status : ℕ) → Written → Written → Type 0
   PerformsAsked asked status old now =
-      (IsUnused drives.before drives.now × IsUnused readers.before readers.now × IsUnused folders.before folders.now × IsUnmade makers × LacksMemory status old now)
+      (IsUnused drives.before drives.now × IsUnused readers.before readers.now × IsUnused folders.before folders.now × UsesNoMaker makers × LacksMemory status old now)
       ⊎ DoesAsked asked status old now

@@ -2,13 +2,14 @@
 ghost use Rattle.std.specs.Prelude.{◌≡◌, ◌≤◌, ◌<◌, ◌∷◌, [], true, IfOk, length, map};
 ghost use Rattle.std.specs.Vec.{vec_capacity};
 ghost use Rattle.tape.specs.Changes.{AdoptsVolume, ChangesBy, ImageIsChanged, PurgesFiles, RenamesFile, UpgradesVolume};
-ghost use Rattle.tape.specs.Changes.{purges, redo_step, said};
+ghost use Rattle.tape.specs.Changes.{no_new_name_line, purges, redo_step, said};
 ghost use Rattle.tape.specs.Images.{sight};
 ghost use Rattle.tape_drives.specs.Lending.{Uses};
 ghost use Rattle.tape.specs.Lent.{both_arguments, one_if};
 ghost use Rattle.tape.specs.Names.{name_spelt, names_spelt, new_name_spelt};
 ghost use Rattle.tape_changes.specs.Changing.{AreFormed};
 ghost use Rattle.tape_volumes.specs.Changes.{IsFormedChange};
+ghost use Rattle.tape_volumes.specs.Messages.{WritesMessage};
 ghost use Rattle.tape_volumes.specs.Outputs.{written};
 
 use crate::images::work_on_image;
@@ -61,7 +62,7 @@ fn take_steps<M: Medium + Drop, D: Drives<M>, K: Sink + Drop, E: Sink>(
 }
 
 /// Makes the changes of these steps on the image of that name, and says the exit status.
-fn change_image<M: Medium + Drop, D: Drives<M>, K: Sink + Drop, E: Sink>(
+pub(crate) fn change_image<M: Medium + Drop, D: Drives<M>, K: Sink + Drop, E: Sink>(
     alloc: Global,
     drives: &mut D,
     image: &str,
@@ -163,11 +164,22 @@ pub fn purge_files<M: Medium + Drop, D: Drives<M>, K: Sink + Drop, E: Sink>(
 }
 
 /// The name that a text spells, if a file can be given it.
-fn new_name_spelt(text: &str) -> Option<NewName>
+pub(crate) fn new_name_spelt(text: &str) -> Option<NewName>
     ensures { result ≡ new_name_spelt text.now }
 {
     let name = name_spelt(text)?;
     NewName::of(&name)
+}
+
+/// Writes that a file can be given no name that a text spells, and says the exit status.
+pub(crate) fn refuse_new_name<E: Sink>(error: &mut E, text: &str) -> u8
+    ensures status { result ≡ 2 }
+    ensures says { WritesMessage (no_new_name_line text.now)
+        (E.written error.old) (E.written error.new) (E.faults error.old) (E.faults error.new) }
+{
+    let cause =
+        b"a file can be given a name of a capital letter, and then capital letters, digits and _, ten at most";
+    refuse_text(error, text, cause)
 }
 
 /// Does the job `rename`, and says the exit status.
@@ -190,9 +202,7 @@ pub fn rename_file<M: Medium + Drop, D: Drives<M>, K: Sink + Drop, E: Sink>(
         return (refuse_name(error, from), out);
     };
     let Some(new) = new_name_spelt(to) else {
-        let cause =
-            b"a file can be given a name of a capital letter, and then capital letters, digits and _, ten at most";
-        return (refuse_text(error, to, cause), out);
+        return (refuse_new_name(error, to), out);
     };
     let step = Step {
         change: Change::Rename { old, new },

@@ -11,13 +11,14 @@ mod mounted;
 mod names;
 mod new;
 mod performing;
+mod put;
 mod several;
 mod showing;
 mod whole;
 mod why;
 
 use exits::exit;
-use il_ports::StdSink;
+use il_ports::{StdSink, StdSource};
 use performing::perform;
 use std::io::IsTerminal;
 use std::process::ExitCode;
@@ -32,6 +33,7 @@ fn words_of(rt: &HostRuntime) -> io::Result<Vec<String>> {
 
 fn main(rt: HostRuntime) -> ExitCode {
     let mut error = StdSink::new(rt.stderr());
+    let mut input = StdSource::new(rt.stdin());
     let out = StdSink::new(io::writer(&rt));
     let mut drives = SystemDrives::new(&rt);
     let mut readers = SystemReaders::new(&rt);
@@ -48,6 +50,7 @@ fn main(rt: HostRuntime) -> ExitCode {
         &mut readers,
         &mut folders,
         &mut makers,
+        &mut input,
         progress,
         out,
         &mut error,

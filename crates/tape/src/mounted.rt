@@ -1,8 +1,8 @@
-ghost use Rattle.std.specs.Prelude.{◌≡◌, ◌≤◌, length};
+ghost use Rattle.std.specs.Prelude.{◌≡◌, ◌≤◌, false, length};
 ghost use Rattle.host_model.specs.Requests.{Asks, OfVolume, item_for};
 ghost use Rattle.il_host.specs.PlainCommands.{IsPlainCommand};
 ghost use Rattle.il_script.specs.declared.limits.TheConstants.{LONGEST_PAYLOAD};
-ghost use Rattle.tape_volumes.specs.Changes.{IsFormedChange, change_command};
+ghost use Rattle.tape_volumes.specs.Changes.{IsFormedChange, change_command, is_batch};
 
 use il_host::Performer;
 use il_script::{Command, Reply};
@@ -10,9 +10,10 @@ use lif_dir::{Name, SlotTable};
 use lif_header::Header;
 use tape_volumes::{Change, FileRead, Volumes};
 
-/// The command that makes a change, and the bytes that it carries.
+/// The command that makes a change other than a batch, and the bytes that it carries.
 fn command_for<'a>(change: &Change<'a>) -> (Command, &'a [u8])
-    requires { IsFormedChange change.now }
+    requires formed { IsFormedChange change.now }
+    requires single { is_batch change.now ≡ false }
     ensures plain { IsPlainCommand result.0 }
     ensures few { length result.1.now ≤ LONGEST_PAYLOAD }
     ensures item { item_for result.0 result.1.now ≡ Asks (OfVolume (change_command change.now)) }
@@ -36,6 +37,7 @@ fn command_for<'a>(change: &Change<'a>) -> (Command, &'a [u8])
         Change::Adopt => (Command::Adopt, b""),
         Change::Upgrade => (Command::Upgrade, b""),
         Change::Format { label, slots } => (Command::Format { label, slots }, b""),
+        Change::Batch(_) => unreachable!(),
     }
 }
 
@@ -61,6 +63,9 @@ impl<P: Performer + Drop> Volumes for Mounted<P> {
     }
 
     fn change(&mut self, change: &Change<'_>) -> Reply {
+        if let Change::Batch(batch) = change {
+            return self.host.perform_batch(batch);
+        }
         let (command, bytes) = command_for(change);
         self.host.perform(&command, bytes)
     }

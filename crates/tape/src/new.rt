@@ -7,7 +7,7 @@ ghost use Rattle.tape.specs.Lent.{both_arguments, one_if};
 ghost use Rattle.tape.specs.New.{MakesBy, MakesImage, MakesOrNot, StaysIf, format_step, label_spelt, maker_sight};
 ghost use Rattle.tape.specs.New.{not_made_cause, not_made_status, slots_spelt, with_upgrade};
 ghost use Rattle.tape_changes.specs.Changing.{AreFormed};
-ghost use Rattle.tape_drives.specs.Lending.{TakesBack, Uses};
+ghost use Rattle.tape_drives.specs.Lending.{ComesBack, Uses};
 ghost use Rattle.tape_drives.specs.Making.{MakesOn};
 ghost use Rattle.tape_volumes.specs.Changes.{IsFormedChange};
 ghost use Rattle.tape_volumes.specs.Endings.{told_line};
@@ -25,7 +25,7 @@ use made_images::NotMade;
 use std::alloc::Global;
 use tape_changes::{Changing, Step, write_changed};
 use tape_drives::Makers;
-use tape_volumes::{Change, Ending, no_memory, refuse_text, write_parts};
+use tape_volumes::{Change, Ending, no_memory, refuse_text, write_cause};
 
 /// What is printed once the volume is there, if its redo file stays as it was made.
 const SMALL: &[u8] = b"4 records are the redo file's\n";
@@ -64,14 +64,6 @@ fn format_step(label: NewLabel, slots: u16, small: bool) -> Step<'static>
     }
 }
 
-/// Writes what was not done with an image. It is lost if standard error cannot be written.
-fn tell<E: Sink>(error: &mut E, image: &str, cause: &[u8])
-    ensures { WritesMessage (told_line image.now cause.now [])
-        (E.written error.old) (E.written error.new) (E.faults error.old) (E.faults error.new) }
-{
-    let _ = write_parts(error, &[b"tape: ", image.as_bytes(), b": ", cause, b"\n"]);
-}
-
 /// Why no image was made.
 fn not_made_cause(why: NotMade) -> &'static [u8]
     ensures { result.now ≡ not_made_cause why }
@@ -91,7 +83,7 @@ fn tell_not_made<E: Sink>(error: &mut E, image: &str, why: NotMade) -> u8
     ensures says { WritesMessage (told_line image.now (not_made_cause why) [])
         (E.written error.old) (E.written error.new) (E.faults error.old) (E.faults error.new) }
 {
-    tell(error, image, not_made_cause(why));
+    write_cause(error, image, not_made_cause(why));
     match why {
         NotMade::OutOfMemory => OUT_OF_MEMORY,
         _ => NOT_DONE,
@@ -109,13 +101,13 @@ fn end_with<M: Medium + Drop, W: Makers<M>, E: Sink>(
 )
     ensures stays { StaysIf is_done (W.making makers.new) drive image.now
         (E.written error.old) (E.written error.new) (E.faults error.old) (E.faults error.new) }
-    ensures back { TakesBack (W.making makers.old).lending (W.making makers.new).lending drive }
+    ensures back { ComesBack (W.making makers.old).lending (W.making makers.new).lending drive }
     ensures goes_on { MakesOn (W.making makers.old) (W.making makers.new) }
 {
     if is_done {
         makers.keep(drive);
     } else if !makers.remove(drive) {
-        tell(
+        write_cause(
             error,
             image,
             b"the image was made, but not its volume, and it could not be removed",

@@ -11,17 +11,19 @@ ghost use Rattle.tape_drives.specs.Lending.{Uses};
 ghost use Rattle.tape.specs.New.{maker_sight};
 ghost use Rattle.tape.specs.Performing.{DoesAsked, Explains, PerformsAsked, wanted_in};
 ghost use Rattle.tape.specs.Shown.{map_style};
+ghost use Rattle.tape.specs.Texts.{input_of};
 
 use crate::changes::{adopt_volume, purge_files, rename_file, upgrade_volume};
 use crate::copies::copy_files;
 use crate::diff::compare_images;
 use crate::files::read_file;
 use crate::new::new_image;
+use crate::put::store_text;
 use crate::several::dir_images;
 use crate::showing::show_image;
 use crate::why::why_image;
 use exits::{BAD_WORDS, unread_status};
-use il_ports::{Medium, MemoryMedium, Sink};
+use il_ports::{Medium, MemoryMedium, Sink, Source};
 use std::alloc::{AllocError, Global};
 use std::io;
 use tape_drives::{Drives, Folders, Makers};
@@ -88,6 +90,7 @@ fn do_job<
     G: Folders<F>,
     O: Medium + Drop,
     W: Makers<O>,
+    S: Source,
     P: Sink + Drop,
     K: Sink + Drop,
     E: Sink,
@@ -98,6 +101,7 @@ fn do_job<
     readers: &mut R,
     folders: &mut G,
     makers: &mut W,
+    input: &mut S,
     progress: Progress<P>,
     out: K,
     error: &mut E,
@@ -110,7 +114,8 @@ fn do_job<
         (sight N.view N.refuses (R.lent readers.old) (R.lent readers.new))
         (medium_sight ⟦<MemoryMedium as Medium>⟧.view ⟦<MemoryMedium as Medium>⟧.refuses)
         (folder_sight F.view (G.lent folders.old) (G.lent folders.new))
-        (maker_sight O.view (W.making makers.old) (W.making makers.new)) (Some (job_asked job.entry)) result.0
+        (maker_sight O.view (W.making makers.old) (W.making makers.new))
+        (input_of (S.left input.old) (S.faults input.old)) (input_of (S.left input.new) (S.faults input.new)) (Some (job_asked job.entry)) result.0
         (written (K.written out) (K.faults out) (E.written error.old) (E.faults error.old))
         (written (K.written result.1) (K.faults result.1) (E.written error.new) (E.faults error.new)) }
     ensures drives { Uses (drives_for (Some (job_asked job.entry))) (D.lent drives.old) (D.lent drives.new) }
@@ -157,6 +162,12 @@ fn do_job<
             label,
             slots,
         } => new_image(alloc, makers, disc, small, image, label, slots, out, error),
+        Job::Put { quiet, image, name } => store_text(
+            alloc, drives, input, false, quiet, image, name, out, error,
+        ),
+        Job::Set { quiet, image, name } => store_text(
+            alloc, drives, input, true, quiet, image, name, out, error,
+        ),
         Job::Help { topic } => (explain(alloc, topic, &mut out, error), out),
         Job::Version => (print(0, VERSION_TEXT.as_bytes(), &mut out, error), out),
     }
@@ -172,6 +183,7 @@ fn perform_words<
     G: Folders<F>,
     O: Medium + Drop,
     W: Makers<O>,
+    S: Source,
     P: Sink + Drop,
     K: Sink + Drop,
     E: Sink,
@@ -182,6 +194,7 @@ fn perform_words<
     readers: &mut R,
     folders: &mut G,
     makers: &mut W,
+    input: &mut S,
     progress: Progress<P>,
     out: K,
     error: &mut E,
@@ -194,7 +207,8 @@ fn perform_words<
         (sight N.view N.refuses (R.lent readers.old) (R.lent readers.new))
         (medium_sight ⟦<MemoryMedium as Medium>⟧.view ⟦<MemoryMedium as Medium>⟧.refuses)
         (folder_sight F.view (G.lent folders.old) (G.lent folders.new))
-        (maker_sight O.view (W.making makers.old) (W.making makers.new)) (arguments_in (map string_bytes words.now)) result.0
+        (maker_sight O.view (W.making makers.old) (W.making makers.new))
+        (input_of (S.left input.old) (S.faults input.old)) (input_of (S.left input.new) (S.faults input.new)) (arguments_in (map string_bytes words.now)) result.0
         (written (K.written out) (K.faults out) (E.written error.old) (E.faults error.old))
         (written (K.written result.1) (K.faults result.1) (E.written error.new) (E.faults error.new)) }
     ensures drives { Uses (drives_for (arguments_in (map string_bytes words.now))) (D.lent drives.old) (D.lent drives.new) }
@@ -205,7 +219,7 @@ fn perform_words<
     match parse(alloc, words) {
         Ok(matches) => match job_of(&matches) {
             Some(job) => do_job(
-                alloc, job, drives, readers, folders, makers, progress, out, error,
+                alloc, job, drives, readers, folders, makers, input, progress, out, error,
             ),
             None => (refuse(missing(alloc, &matches), error), out),
         },
@@ -215,7 +229,7 @@ fn perform_words<
 }
 
 /// The program over standard output and standard error, over the drives that it inserts images in, those that only read
-/// them, the folders that it copies files into, and the drives that new images are made for. `progress` shows which file is copied. It returns the exit status,
+/// them, the folders that it copies files into, the drives that new images are made for, and standard input. `progress` shows which file is copied. It returns the exit status,
 /// and standard output.
 pub fn perform<
     M: Medium + Drop,
@@ -226,6 +240,7 @@ pub fn perform<
     G: Folders<F>,
     O: Medium + Drop,
     W: Makers<O>,
+    S: Source,
     P: Sink + Drop,
     K: Sink + Drop,
     E: Sink,
@@ -236,6 +251,7 @@ pub fn perform<
     readers: &mut R,
     folders: &mut G,
     makers: &mut W,
+    input: &mut S,
     progress: Progress<P>,
     out: K,
     error: &mut E,
@@ -252,7 +268,8 @@ pub fn perform<
         (sight N.view N.refuses (R.lent readers.old) (R.lent readers.new))
         (medium_sight ⟦<MemoryMedium as Medium>⟧.view ⟦<MemoryMedium as Medium>⟧.refuses)
         (folder_sight F.view (G.lent folders.old) (G.lent folders.new))
-        (maker_sight O.view (W.making makers.old) (W.making makers.new)) (arguments_in (map string_bytes list.items)) result.0
+        (maker_sight O.view (W.making makers.old) (W.making makers.new))
+        (input_of (S.left input.old) (S.faults input.old)) (input_of (S.left input.new) (S.faults input.new)) (arguments_in (map string_bytes list.items)) result.0
         (written (K.written out) (K.faults out) (E.written error.old) (E.faults error.old))
         (written (K.written result.1) (K.faults result.1) (E.written error.new) (E.faults error.new))) }
     ensures drives { Uses (drives_for (wanted_in words)) (D.lent drives.old) (D.lent drives.new) }
@@ -262,7 +279,7 @@ pub fn perform<
 {
     match words {
         Ok(words) => perform_words(
-            alloc, &words, drives, readers, folders, makers, progress, out, error,
+            alloc, &words, drives, readers, folders, makers, input, progress, out, error,
         ),
         Err(unread) => (refuse_unread(&unread, error), out),
     }

@@ -1,3 +1,6 @@
 mod Steps
 mod Said
+mod ByName
+mod Composed
+mod Replaced
 mod Examples

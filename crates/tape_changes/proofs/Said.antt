@@ -35,11 +35,11 @@ pub reply_at : (replies : List Reply) (i : ℕ) (at : Option (Bor Reply)) (found
 reply_at replies i None found value is = sym (slice_get_past replies i is)
 reply_at replies i (Some b) found value is = ap Some value ∙ sym (slice_get-get_or replies i b.now is.0)
 
-pub told_next : (image : List ℕ) (steps : List Step) (replies : List Reply) (i : ℕ) (d : Step) (reply : Option Reply) (a b c : Option (List ℕ)) → i < length steps → reply ≡ slice_get replies i
-    → Appends a b (step_messages image (take i steps) replies) → Appends b c (step_message image (get_or steps i d) reply) → Appends a c (step_messages image (take (i + 1) steps) replies)
-told_next image steps replies i d reply a b c lt is first last =
+pub told_next : (image : List ℕ) (steps : List Step) (replies : List Reply) (i : ℕ) (step : Step) (reply : Option Reply) (a b c : Option (List ℕ)) → i < length steps → step ≡ get_or steps i step
+    → reply ≡ slice_get replies i → Appends a b (step_messages image (take i steps) replies) → Appends b c (step_message image step reply) → Appends a c (step_messages image (take (i + 1) steps) replies)
+told_next image steps replies i step reply a b c lt here is first last =
     subst (λ (text : List ℕ). Appends a c text)
-    (ap (λ (r : Option Reply). step_messages image (take i steps) replies ++ step_message image (get_or steps i d) r) is ∙ sym (messages_next image steps replies i d lt))
+    ((λ j. step_messages image (take i steps) replies ++ step_message image (here j) (is j)) ∙ sym (messages_next image steps replies i step lt))
     (appends-trans a b c _ _ first last)
 
 -- a text before others
@@ -62,12 +62,13 @@ messages_at image (step ∷ steps) (r ∷ replies) (suc i) d lt =
     (more.0, behind (step_message image step (Some r)) (step_messages image steps replies) (step_messages image (take i steps) replies) (step_message image (get_or steps i d) (slice_get replies i)) more.0 more.1)
 
 -- a write failed at the message of this place
-pub told_front : {E : Type 0} (image : List ℕ) (steps : List Step) (replies : List Reply) (i : ℕ) (d : Step) (reply : Option Reply) (a b c : Option (List ℕ)) (r : Result (Unit {0}) E) → IsErr r → i < length steps
-    → reply ≡ slice_get replies i → Appends a b (step_messages image (take i steps) replies) → WritesFront b c (step_message image (get_or steps i d) reply) → WritesAll a c (step_messages image steps replies) r
-told_front image steps replies i d reply a b c r fails lt is first second =
-    let at = messages_at image steps replies i d lt in
-    let here = step_message image (get_or steps i d) (slice_get replies i) in
-    let front : WritesFront b c here = subst (λ (o : Option Reply). WritesFront b c (step_message image (get_or steps i d) o)) is second in
+pub told_front : {E : Type 0} (image : List ℕ) (steps : List Step) (replies : List Reply) (i : ℕ) (step : Step) (reply : Option Reply) (a b c : Option (List ℕ)) (r : Result (Unit {0}) E) → IsErr r → i < length steps
+    → step ≡ get_or steps i step → reply ≡ slice_get replies i → Appends a b (step_messages image (take i steps) replies) → WritesFront b c (step_message image step reply)
+    → WritesAll a c (step_messages image steps replies) r
+told_front image steps replies i step reply a b c r fails lt same is first second =
+    let at = messages_at image steps replies i step lt in
+    let here = step_message image (get_or steps i step) (slice_get replies i) in
+    let front : WritesFront b c here = subst (λ (text : List ℕ). WritesFront b c text) (λ j. step_message image (same j) (is j)) second in
     front_of a c (step_messages image steps replies) r fails
     (subst (λ (text : List ℕ). WritesFront a c text) (sym at.1)
     (front_first a c (step_messages image (take i steps) replies ++ here) at.0 (front_next a b c (step_messages image (take i steps) replies) here first front)))

@@ -1,8 +1,8 @@
 -- How the steps of a job add up.
 use Rattle.std.proofs.Common.{◌≡◌, ◌⊎◌, inl, inr, ⊎_elim, ◌≤◌, ◌++◌, ◌∙◌, ℕ, zero, suc, Bool, true, false, List, [], ◌∷◌, Option, Some, None, refl, sym, ap, subst, append_assoc, arith}
-use Rattle.std.specs.Prelude.{◌<◌, ◌+◌, OnErr, Result, Ok, Err, is_ok, is_some, get_or, length, take, if◌then◌else◌}
+use Rattle.std.specs.Prelude.{◌<◌, ◌+◌, OnErr, Result, Ok, Err, is_ok, is_some, drop, get_or, length, take, if◌then◌else◌}
 use Rattle.std.proofs.lemmas.Grind.{fold-append}
-use Rattle.std.proofs.lemmas.List.{append-nil, length-map, map_more, take-map}
+use Rattle.std.proofs.lemmas.List.{append-nil, drop_more, length-map, map_more, take-map}
 use Rattle.lif_model.specs.Apply.{VolumeCommand, apply}
 use Rattle.lif_model.specs.Shelf.{Shelf}
 use Rattle.lif_model.specs.Stops.{LeavesOnly}
@@ -82,11 +82,11 @@ after_none commands s none = record {
   volume = λ told own. sym (ap (λ (l : List VolumeCommand). after s.records l (volume_seen s.tape)) none);
 }
 
-seen_of : (w : Option Tape) (v : Option Volume) → volume_shown w ≡ Some v → volume_seen w ≡ v
+pub seen_of : (w : Option Tape) (v : Option Volume) → volume_shown w ≡ Some v → volume_seen w ≡ v
 seen_of None v e = cc
 seen_of (Some z) v e = cc
 
-shown_of : (u : Option Tape) → is_some u ≡ true → volume_shown u ≡ Some (volume_seen u)
+pub shown_of : (u : Option Tape) → is_some u ≡ true → volume_shown u ≡ Some (volume_seen u)
 shown_of None e = cc
 shown_of (Some y) e = refl
 
@@ -120,15 +120,21 @@ module _ (all front : List VolumeCommand) (command : VolumeCommand) (is : all �
       ⊎_elim (λ same. (i, omega (arith, lt), same ∙ before.volume told own ∙ ap (λ (l : List VolumeCommand). after s.records l (volume_seen s.tape)) fronts))
       (λ made. (i + 1, omega (arith, lt), made ∙ one_more told own ∙ ap (λ (l : List VolumeCommand). after s.records l (volume_seen s.tape)) alls)) (left (before.own own))
 
-pub commands_next : (steps : List Step) (i : ℕ) (step : Step) → i < length steps → take (i + 1) (commands_of steps) ≡ take i (commands_of steps) ++ change_command (get_or steps i step).change ∷ []
-commands_next steps i step lt =
-    let f = λ (step : Step). change_command step.change in
-    take-map f (i + 1) steps ∙ map_more f steps i step lt ∙ ap (λ (l : List VolumeCommand). l ++ change_command (get_or steps i step).change ∷ []) (sym (take-map f i steps))
+-- a step, and those after it
+pub step_next : (steps : List Step) (i : ℕ) (step : Step) → i < length steps → step ≡ get_or steps i step → drop i steps ≡ step ∷ drop (i + 1) steps
+step_next steps i step lt is = drop_more steps i step lt ∙ ap (λ (s : Step). s ∷ drop (i + 1) steps) (sym is)
 
-pub left_at : (steps : List Step) (i : ℕ) (step : Step) (s u : Mounted) → i < length steps → IsAfter (take i (commands_of steps)) s u → is_some s.tape ≡ true
-    → (x : Tape) → StopLeaves (change_command (get_or steps i step).change) u x → FrontIsLeft (commands_of steps) s x
-left_at steps i step s u lt before told x left =
-    left_next (take (i + 1) (commands_of steps)) (take i (commands_of steps)) _ (commands_next steps i step lt) s u before (commands_of steps) i
+pub commands_next : (steps : List Step) (i : ℕ) (step : Step) → i < length steps → step ≡ get_or steps i step
+    → take (i + 1) (commands_of steps) ≡ take i (commands_of steps) ++ change_command step.change ∷ []
+commands_next steps i step lt is =
+    let f = λ (step : Step). change_command step.change in
+    take-map f (i + 1) steps ∙ map_more f steps i step lt ∙ ap (λ (l : List VolumeCommand). l ++ f (get_or steps i step) ∷ []) (sym (take-map f i steps))
+    ∙ ap (λ (s : Step). take i (commands_of steps) ++ f s ∷ []) (sym is)
+
+pub left_at : (steps : List Step) (i : ℕ) (step : Step) (s u : Mounted) → i < length steps → step ≡ get_or steps i step → IsAfter (take i (commands_of steps)) s u → is_some s.tape ≡ true
+    → (x : Tape) → StopLeaves (change_command step.change) u x → FrontIsLeft (commands_of steps) s x
+left_at steps i step s u lt is before told x left =
+    left_next (take (i + 1) (commands_of steps)) (take i (commands_of steps)) _ (commands_next steps i step lt is) s u before (commands_of steps) i
     (omega (arith, lt, length-map steps (λ (step : Step). change_command step.change))) refl refl told x left
 
 -- ---- beside the tape, and after power stops

@@ -30,12 +30,17 @@ change_advice c code.Protected = codes ": it is the redo file"
 change_advice c code.NeedsUpgrade = codes ": run 'tape upgrade IMAGE' first; that takes 30 records"
 change_advice c code = []
 
--- The message of a step, by the reply to its change. A step without a reply was not taken, since the job ended before.
+-- The message of a change that concerns this subject, by the reply to it. One without a reply was not tried, since the job
+-- ended before.
+abbrev pub change_message : (image subject : List ℕ) → Change → Option Reply → List ℕ
+change_message image subject c (Some reply.Ok) = []
+change_message image subject c (Some (reply.No code)) = told_line (of_image image subject) (code_text code) (change_advice c code)
+change_message image subject c (Some r) = told_line (of_image image subject) (cause_of (ending.Went went.Fault)) []
+change_message image subject c None = told_line (of_image image subject) (codes "it was not tried") []
+
+-- the message of a step
 abbrev pub step_message : (image : List ℕ) → Step → Option Reply → List ℕ
-step_message image step (Some reply.Ok) = []
-step_message image step (Some (reply.No code)) = told_line (of_image image step.subject.now) (code_text code) (change_advice step.change code)
-step_message image step (Some r) = told_line (of_image image step.subject.now) (cause_of (ending.Went went.Fault)) []
-step_message image step None = told_line (of_image image step.subject.now) (codes "it was not tried") []
+step_message image step reply = change_message image step.subject.now step.change reply
 
 -- one for each step whose change is not known to be made; the steps without a reply are the last ones
 abbrev pub step_messages : (image : List ℕ) → List Step → List Reply → List ℕ

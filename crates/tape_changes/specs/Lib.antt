@@ -1,2 +1,4 @@
 pub mod Changing
+pub mod Replacing
+pub mod ReplaceMessages
 pub mod ChangeMessages

@@ -2,7 +2,7 @@
 ghost use Rattle.std.specs.Prelude.{◌≡◌, OnOk};
 ghost use Rattle.il_ports.specs.Writing.{WritesAll};
 ghost use Rattle.lif_model.specs.Causes.{HasCause};
-ghost use Rattle.tape_changes.specs.ChangeMessages.{change_advice, change_messages, step_message, step_messages};
+ghost use Rattle.tape_changes.specs.ChangeMessages.{change_advice, change_message, change_messages, step_messages};
 ghost use Rattle.tape_volumes.specs.Endings.{of_image, told_line};
 ghost use Rattle.tape_volumes.specs.Messages.{WritesMessage};
 
@@ -38,16 +38,16 @@ fn change_advice(change: &Change<'_>, code: Code) -> &'static [u8]
     }
 }
 
-/// Writes why the change of a step was not made, and what that means.
-fn write_told_of<K: Sink>(
+/// Writes why a change that concerns this subject was not made, and what that means.
+pub(crate) fn write_told_of<K: Sink>(
     to: &mut K,
     image: &str,
-    step: &Step<'_>,
+    subject: &[u8],
     cause: &[u8],
     advice: &[u8],
 ) -> Result<(), Failed>
     ensures parts { WritesAll (K.written to.old) (K.written to.new)
-        (told_line (of_image image.now step.now.subject.now) cause.now advice.now) result }
+        (told_line (of_image image.now subject.now) cause.now advice.now) result }
     ensures cause { HasCause (K.faults to.old) (K.faults to.new) result }
 {
     write_parts(
@@ -56,7 +56,7 @@ fn write_told_of<K: Sink>(
             b"tape: ",
             image.as_bytes(),
             b": ",
-            step.subject,
+            subject,
             b": ",
             cause,
             advice,
@@ -65,34 +65,30 @@ fn write_told_of<K: Sink>(
     )
 }
 
-/// Writes the message of a step, unless its change was made. A step without a reply was not taken.
-fn write_step<K: Sink>(
+/// Writes the message of a change that concerns this subject, unless it was made. One without a reply was not tried.
+pub(crate) fn write_change<K: Sink>(
     to: &mut K,
     image: &str,
-    step: &Step<'_>,
+    subject: &[u8],
+    change: &Change<'_>,
     reply: Option<Reply>,
 ) -> Result<(), Failed>
     ensures parts { WritesAll (K.written to.old) (K.written to.new)
-        (step_message image.now step.now reply) result }
+        (change_message image.now subject.now change.now reply) result }
     ensures cause { HasCause (K.faults to.old) (K.faults to.new) result }
 {
     match reply {
         Some(Reply::Ok) => Ok(()),
         Some(Reply::No(code)) => {
             let refused = Ending::Went(Went::Refused(code));
-            write_told_of(
-                to,
-                image,
-                step,
-                refused.cause(),
-                change_advice(&step.change, code),
-            )
+            let advice = change_advice(change, code);
+            write_told_of(to, image, subject, refused.cause(), advice)
         }
         Some(Reply::FaultFrame | Reply::FaultMedium) => {
             let fault = Ending::Went(Went::Fault);
-            write_told_of(to, image, step, fault.cause(), b"")
+            write_told_of(to, image, subject, fault.cause(), b"")
         }
-        None => write_told_of(to, image, step, b"it was not tried", b""),
+        None => write_told_of(to, image, subject, b"it was not tried", b""),
     }
 }
 
@@ -108,7 +104,9 @@ fn write_steps<K: Sink>(
     ensures cause { HasCause (K.faults to.old) (K.faults to.new) result }
 {
     'steps: for place in 0..steps.len() {
-        write_step(to, image, &steps[place], replies.get(place).copied())?;
+        let step = &steps[place];
+        let reply = replies.get(place).copied();
+        write_change(to, image, step.subject, &step.change, reply)?;
     }
     Ok(())
 }

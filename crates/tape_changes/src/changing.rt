@@ -24,7 +24,7 @@ pub struct Step<'a> {
 
 /// What the job does after a step.
 #[derive(Clone, Copy, Debug, PartialEq, Eq)]
-enum Next {
+pub(crate) enum Next {
     /// It takes the next step.
     GoesOn,
     /// It ends.
@@ -34,7 +34,7 @@ enum Next {
 }
 
 /// Prints the line of a step if its change was made, and says what is next.
-fn next_by<K: Sink>(reply: Reply, ends_early: bool, line: &[u8], out: &mut K) -> Next
+pub(crate) fn next_by<K: Sink>(reply: Reply, ends_early: bool, line: &[u8], out: &mut K) -> Next
     ensures { NextBy ends_early reply line.now result
         (K.written out.old) (K.written out.new) (K.faults out.old) (K.faults out.new) }
 {

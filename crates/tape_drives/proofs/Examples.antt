@@ -1,7 +1,7 @@
 -- Drives that are numbers, of which contracts see a list of those given and a list of those that came back.
 use Rattle.std.proofs.Common.{◌≡◌, ◌∷◌, ℕ, Bool, true, false, List, [], length, inl, inr, refl, arith}
 use Rattle.std.specs.Prelude.{◌⊎◌}
-use Rattle.tape_drives.specs.Lending.{Lending, Gives, TakesBack, Uses}
+use Rattle.tape_drives.specs.Lending.{Lending, Gives, ComesBack, Uses}
 
 abbrev IsIn : ℕ → List ℕ → Type 0
 IsIn n [] = ⊥
@@ -23,11 +23,11 @@ gives_no_eight gives = no gives.gave
     no (inr none) = none
 
 -- it came back
-takes_seven : TakesBack (told (7 ∷ []) [] false) (told (7 ∷ []) (7 ∷ []) true) 7
+takes_seven : ComesBack (told (7 ∷ []) [] false) (told (7 ∷ []) (7 ∷ []) true) 7
 takes_seven = record { goes_on = record { gave = λ n is. is; took = λ n is. inr is }; few = omega arith; back = refl; took = inl refl }
 
 -- another drive that comes back is not drive 7
-takes_no_seven : TakesBack (told (7 ∷ []) [] false) (told (7 ∷ []) (8 ∷ []) true) 7 → ⊥
+takes_no_seven : ComesBack (told (7 ∷ []) [] false) (told (7 ∷ []) (8 ∷ []) true) 7 → ⊥
 takes_no_seven takes = no takes.took
   where
     no : IsIn 7 (8 ∷ []) → ⊥

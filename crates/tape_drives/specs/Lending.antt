@@ -35,7 +35,7 @@ MayGive v w (Ok x) = Gives v w x
 MayGive v w (Err _) = GivesNone v w
 
 -- this one came back, and so all are back
-pub record TakesBack {T : Type 0} (v w : Lending T) (x : T) : Type 0 where
+pub record ComesBack {T : Type 0} (v w : Lending T) (x : T) : Type 0 where
   pub goes_on : LendsOn v w
   pub few : w.given ≤ v.given
   pub back : w.all_back ≡ true

@@ -5,7 +5,7 @@ use Rattle.il_ports.specs.Media.{MediumView}
 use Rattle.il_ports.specs.Sizes.{records_of_size}
 use Rattle.il_ports.specs.declared.image.Size.{Size}
 use Rattle.made_images.specs.declared.making.NotMade.{NotMade}
-use Rattle.tape_drives.specs.Lending.{Lending, LendsOn, Gives, GivesNone, TakesBack}
+use Rattle.tape_drives.specs.Lending.{Lending, LendsOn, Gives, GivesNone, ComesBack}
 
 -- what was made so far, and what became of it
 pub record Making (M : Type 0) : Type 1 where
@@ -38,23 +38,23 @@ pub record Makes {M : Type 0} (view : M → MediumView) (name : List ℕ) (size 
   pub inside : IsInDrive name size (view x)
 
 -- no drive was given
-pub record MakesNone {M : Type 0} (name : List ℕ) (v w : Making M) (why : NotMade) : Type 0 where
+pub record MakesNoDrive {M : Type 0} (name : List ℕ) (v w : Making M) (why : NotMade) : Type 0 where
   pub goes_on : MakesOn v w
   pub none : GivesNone v.lending w.lending
   pub refused : w.refused name why
 
 abbrev pub MayMake : {M : Type 0} → (M → MediumView) → (name : List ℕ) → Size → (v w : Making M) → Result M NotMade → Type 0
 MayMake view name size v w (Ok x) = Makes view name size v w x
-MayMake view name size v w (Err why) = MakesNone name v w why
+MayMake view name size v w (Err why) = MakesNoDrive name v w why
 
 -- this drive came back, and its image stays
-pub record Keeps {M : Type 0} (v w : Making M) (x : M) : Type 0 where
+pub record KeepsImage {M : Type 0} (v w : Making M) (x : M) : Type 0 where
   pub goes_on : MakesOn v w
-  pub takes : TakesBack v.lending w.lending x
+  pub takes : ComesBack v.lending w.lending x
   pub kept : w.kept x
 
 -- this drive came back, and its image was to be removed; `gone` says whether it was
 pub record Removes {M : Type 0} (v w : Making M) (x : M) (gone : Bool) : Type 0 where
   pub goes_on : MakesOn v w
-  pub takes : TakesBack v.lending w.lending x
+  pub takes : ComesBack v.lending w.lending x
   pub removed : w.removed x gone

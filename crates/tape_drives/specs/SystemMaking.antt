@@ -3,7 +3,7 @@ use Rattle.std.specs.Prelude.{◌≡◌, Bool, ℕ, List, Result, is_ok}
 use Rattle.std.specs.declared.io.Error.{Error}
 use Rattle.il_ports.specs.Files.{FileView}
 use Rattle.il_ports.specs.NamedImages.{ImagesView, Removed}
-use Rattle.made_images.specs.MadeImages.{IsMadeAs, IsRefused, MadeState}
+use Rattle.made_images.specs.MadeImages.{IsMadeAs, IsNotMade, MadeState}
 use Rattle.tape_drives.specs.Lending.{unrecorded}
 use Rattle.tape_drives.specs.Making.{Making}
 
@@ -19,7 +19,7 @@ abbrev pub making_of : {F I : Type 0} → (F → FileView) → (I → ImagesView
 making_of {F} {I} view seen = record {
   lending = unrecorded;
   made = λ name size drive. IsMadeAs view seen name size drive;
-  refused = λ name why. (before : I) × (after : I) × IsRefused view seen name before after why;
+  refused = λ name why. (before : I) × (after : I) × IsNotMade view seen name before after why;
   kept = λ drive. Unit {0};
   removed = λ drive gone. IsRemoval seen drive gone;
 }

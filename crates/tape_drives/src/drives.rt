@@ -3,7 +3,7 @@ use il_ports::Medium;
 /// Where drives come from: each image is inserted in a drive of its own.
 pub trait Drives<M: Medium> {
     ghost use Rattle.std.specs.Prelude.{◌≡◌, true};
-    ghost use Rattle.tape_drives.specs.Lending.{Lending, Gives, TakesBack};
+    ghost use Rattle.tape_drives.specs.Lending.{Lending, Gives, ComesBack};
 
     // The drives that were given, and those that are back.
     ghost lent: { Self → Lending M };
@@ -16,5 +16,5 @@ pub trait Drives<M: Medium> {
 
     /// Takes a drive back.
     fn back(&mut self, drive: M)
-        ensures { TakesBack (lent self.old) (lent self.new) drive };
+        ensures { ComesBack (lent self.old) (lent self.new) drive };
 }

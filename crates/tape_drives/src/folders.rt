@@ -4,7 +4,7 @@ use tape_folder::Folder;
 /// Where folders come from.
 pub trait Folders<F: Folder> {
     ghost use Rattle.std.specs.Prelude.{◌≡◌, IfOk, None, true};
-    ghost use Rattle.tape_drives.specs.Lending.{Lending, MayGive, TakesBack};
+    ghost use Rattle.tape_drives.specs.Lending.{Lending, MayGive, ComesBack};
     ghost use Rattle.tape_folder.specs.Paths.{IsFolderPath};
 
     // The folders that were given, and those that are back.
@@ -19,5 +19,5 @@ pub trait Folders<F: Folder> {
 
     /// Takes a folder back.
     fn back(&mut self, folder: F)
-        ensures { TakesBack (lent self.old) (lent self.new) folder };
+        ensures { ComesBack (lent self.old) (lent self.new) folder };
 }

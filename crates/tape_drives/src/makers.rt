@@ -5,7 +5,7 @@ use std::alloc::Global;
 /// Where new images come from. Each is made for a drive of its own, which is given with the image in it.
 pub trait Makers<M: Medium> {
     ghost use Rattle.std.specs.Prelude.{◌≡◌, true};
-    ghost use Rattle.tape_drives.specs.Making.{Making, MayMake, Keeps, Removes};
+    ghost use Rattle.tape_drives.specs.Making.{Making, MayMake, KeepsImage, Removes};
 
     // The images that were made, and what became of them.
     ghost making: { Self → Making M };
@@ -18,7 +18,7 @@ pub trait Makers<M: Medium> {
 
     /// Takes a drive back. Its image stays.
     fn keep(&mut self, drive: M)
-        ensures { Keeps (making self.old) (making self.new) drive };
+        ensures { KeepsImage (making self.old) (making self.new) drive };
 
     /// Takes a drive back, removes its image, and says whether it was removed.
     fn remove(&mut self, drive: M) -> bool

@@ -18,6 +18,8 @@ Jobs:
   why      Prints why IMAGE can or cannot be listed and changed
   diff     Compares the files of IMAGE with those of OTHER
   new      Makes a new image of a tape or a disc, with a volume
+  put      Stores a text from standard input as a new file NAME
+  set      Stores a text from standard input as file NAME, new or in place of a text of that name
   purge    Purges files of IMAGE
   rename   Gives a file of IMAGE another name
   adopt    Gives a volume of another program its redo file
@@ -151,6 +153,41 @@ Options:
       --help   Print this page
 ";
 
+const PUT: &str = "\
+Stores a text from standard input as a new file NAME
+
+Usage: tape put [OPTIONS] IMAGE NAME
+
+Arguments:
+  [IMAGE]  The image file
+  [NAME]   The file's name: a capital letter, then capital letters, digits and _
+
+Options:
+  -q, --quiet  Do not print the name of the stored file
+      --help   Print this page
+
+'tape put' reads the text to its end before it opens IMAGE. Once the text is stored,
+'tape put' prints NAME, unless '-q' is given.
+";
+
+const SET: &str = "\
+Stores a text from standard input as file NAME, new or in place of a text of that name
+
+Usage: tape set [OPTIONS] IMAGE NAME
+
+Arguments:
+  [IMAGE]  The image file
+  [NAME]   The file's name: a capital letter, then capital letters, digits and _
+
+Options:
+  -q, --quiet  Do not print the name of the stored file
+      --help   Print this page
+
+'tape set' reads the text to its end before it opens IMAGE. It replaces a text file of that
+name whole or not at all. If a file of that name has another type, that file stays as it is,
+and a message says so. Once the text is stored, 'tape set' prints NAME, unless '-q' is given.
+";
+
 const PURGE: &str = "\
 Purges files of IMAGE
 
@@ -227,6 +264,8 @@ fn each_page_is_printed(rt: HostRuntime) -> Result<(), Fail> {
         (Some(Topic::Why), WHY),
         (Some(Topic::Diff), DIFF),
         (Some(Topic::New), NEW),
+        (Some(Topic::Put), PUT),
+        (Some(Topic::Set), SET),
         (Some(Topic::Purge), PURGE),
         (Some(Topic::Rename), RENAME),
         (Some(Topic::Adopt), ADOPT),

@@ -149,8 +149,62 @@ fn arguments_ask_for_changes(rt: HostRuntime) -> Result<(), Fail> {
     Ok(())
 }
 
+#[test]
+fn arguments_ask_for_new_images_and_texts(rt: HostRuntime) -> Result<(), Fail> {
+    let (image, label, slots, name) = ("TAPE", "LABEL", "16", "NOTE");
+    let new = |disc, small| Job::New {
+        disc,
+        small,
+        image,
+        label,
+        slots,
+    };
+    let wanted = [
+        ("new TAPE LABEL 16", new(false, false)),
+        ("new --disc TAPE LABEL 16", new(true, false)),
+        ("new TAPE --small LABEL 16", new(false, true)),
+        ("new TAPE LABEL 16 --small --disc", new(true, true)),
+        (
+            "put TAPE NOTE",
+            Job::Put {
+                quiet: false,
+                image,
+                name,
+            },
+        ),
+        (
+            "put -q TAPE NOTE",
+            Job::Put {
+                quiet: true,
+                image,
+                name,
+            },
+        ),
+        (
+            "set TAPE --quiet NOTE",
+            Job::Set {
+                quiet: true,
+                image,
+                name,
+            },
+        ),
+        (
+            "set TAPE NOTE",
+            Job::Set {
+                quiet: false,
+                image,
+                name,
+            },
+        ),
+    ];
+    for (text, job) in wanted {
+        assert!(rt; asks(rt.alloc(), text, job)?, "{text}");
+    }
+    Ok(())
+}
+
 /// Arguments, and the job that they ask to explain.
-const HELPS: [(&str, Option<Topic>); 23] = [
+const HELPS: [(&str, Option<Topic>); 26] = [
     ("help", None),
     ("--help", None),
     ("--help --version", None),
@@ -172,6 +226,9 @@ const HELPS: [(&str, Option<Topic>); 23] = [
     ("purge TAPE --help", Some(Topic::Purge)),
     ("help rename", Some(Topic::Rename)),
     ("adopt --help", Some(Topic::Adopt)),
+    ("help new", Some(Topic::New)),
+    ("put --help", Some(Topic::Put)),
+    ("help set", Some(Topic::Set)),
     ("help help", Some(Topic::Help)),
     ("help --help dir", Some(Topic::Help)),
 ];
@@ -206,7 +263,7 @@ fn refusal(alloc: Global, words: &[String]) -> Result<Option<String>, AllocError
 }
 
 /// Arguments that are refused, and how the message begins.
-const REFUSED: [(&str, &str); 38] = [
+const REFUSED: [(&str, &str); 42] = [
     (
         "",
         "Does one job with image files of HP-IL tapes and discs\n",
@@ -266,6 +323,22 @@ const REFUSED: [(&str, &str); 38] = [
     (
         "adopt",
         "tape: adopt needs IMAGE; 'tape help adopt' explains it\n",
+    ),
+    (
+        "new TAPE LABEL",
+        "tape: new needs IMAGE, LABEL and SLOTS; 'tape help new' explains it\n",
+    ),
+    (
+        "put TAPE",
+        "tape: put needs IMAGE and NAME; 'tape help put' explains it\n",
+    ),
+    (
+        "set -q",
+        "tape: set needs IMAGE and NAME; 'tape help set' explains it\n",
+    ),
+    (
+        "set --over TAPE A",
+        "tape: unexpected argument '--over' found\n",
     ),
     ("upgrade TAPE B", "tape: unexpected argument 'B' found\n"),
     ("why TAPE B", "tape: unexpected argument 'B' found\n"),

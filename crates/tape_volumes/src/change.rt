@@ -1,4 +1,4 @@
-use lif_dir::{Name, NewLabel, NewName};
+use lif_dir::{Batch, Name, NewLabel, NewName};
 
 /// A change of a volume.
 #[derive(Clone, Copy, Debug)]
@@ -34,4 +34,6 @@ pub enum Change<'a> {
         /// How many slots its directory has at least, from 1 on.
         slots: u16,
     },
+    /// Makes the changes of a batch as one.
+    Batch(&'a Batch),
 }

@@ -13,8 +13,8 @@ pub use change::Change;
 pub use ending::Ending;
 pub use job::VolumeJob;
 pub use messages::{
-    end_on, no_memory, output_lost, refuse_name, refuse_text, write_ending, write_ending_of,
-    write_file_ending, write_message, write_parts, write_text,
+    end_on, no_memory, output_lost, refuse_name, refuse_text, write_cause, write_ending,
+    write_ending_of, write_file_ending, write_message, write_parts, write_text,
 };
 pub use printing::print;
 pub use volumes::{FileRead, Volumes};

@@ -134,13 +134,21 @@ pub fn write_file_ending<K: Sink>(to: &mut K, image: &str, file: &str, ending: E
     }
 }
 
+/// Writes why something was not done, and what that concerns. It is lost if standard error cannot be written.
+pub fn write_cause<K: Sink>(to: &mut K, subject: &str, cause: &[u8])
+    ensures { WritesMessage (told_line subject.now cause.now [])
+        (K.written to.old) (K.written to.new) (K.faults to.old) (K.faults to.new) }
+{
+    let _ = write_told(to, subject, cause, b"");
+}
+
 /// Writes why an argument is refused, and says the exit status.
 pub fn refuse_text<K: Sink>(to: &mut K, text: &str, cause: &[u8]) -> u8
     ensures status { result ≡ 2 }
     ensures says { WritesMessage (told_line text.now cause.now [])
         (K.written to.old) (K.written to.new) (K.faults to.old) (K.faults to.new) }
 {
-    let _ = write_told(to, text, cause, b"");
+    write_cause(to, text, cause);
     BAD_WORDS
 }
 

@@ -3,7 +3,7 @@ use Rattle.std.proofs.Common.{◌≡◌, [], ◌∷◌, Some, None, true, false,
 use Rattle.clap.proofs.OnLiterals.{clap_on_literals}
 use Rattle.tape_words.specs.declared.jobs.Topic.TheVariants as topic
 use Rattle.tape_words.specs.Simple.{tape_app}
-use Rattle.tape_words.specs.Asked.{Dir, Out, Get, Raw, Free, Map, Why, Diff, New, Help, Version, arguments_in}
+use Rattle.tape_words.specs.Asked.{Dir, Out, Get, Raw, Free, Map, Why, Diff, New, Put, Set, Help, Version, arguments_in}
 
 listing : arguments_in (codes "dir" ∷ codes "TAPE" ∷ []) ≡ Some (Dir false false (codes "TAPE" ∷ []))
 unfolding tape_app clap_on_literals
@@ -61,6 +61,14 @@ new_images : (arguments_in (codes "new" ∷ codes "TAPE" ∷ codes "HPTAPE" ∷ 
     × (arguments_in (codes "new" ∷ codes "TAPE" ∷ codes "HPTAPE" ∷ []) ≡ None)
 unfolding tape_app clap_on_literals
 new_images = (refl, refl, refl, refl)
+
+-- `-q` is `--quiet`
+stores : (arguments_in (codes "put" ∷ codes "TAPE" ∷ codes "NOTE" ∷ []) ≡ Some (Put false (codes "TAPE") (codes "NOTE")))
+    × (arguments_in (codes "put" ∷ codes "-q" ∷ codes "TAPE" ∷ codes "NOTE" ∷ []) ≡ Some (Put true (codes "TAPE") (codes "NOTE")))
+    × (arguments_in (codes "set" ∷ codes "TAPE" ∷ codes "NOTE" ∷ codes "--quiet" ∷ []) ≡ Some (Set true (codes "TAPE") (codes "NOTE")))
+    × (arguments_in (codes "set" ∷ codes "-q" ∷ codes "TAPE" ∷ []) ≡ None)
+unfolding tape_app clap_on_literals
+stores = (refl, refl, refl, refl)
 
 helps : (arguments_in (codes "help" ∷ []) ≡ Some (Help None)) × (arguments_in (codes "--help" ∷ []) ≡ Some (Help None))
     × (arguments_in (codes "help" ∷ codes "dir" ∷ []) ≡ Some (Help (Some topic.Dir)))

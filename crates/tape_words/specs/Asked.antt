@@ -33,6 +33,10 @@ pub data Wanted : Type 0 where
   Diff : (image other : Text) → Wanted
   -- a new image with a volume of this label: of a disc or of a tape, with a small redo file or a large one
   New : (disc small : Bool) (image label slots : Text) → Wanted
+  -- a text from standard input stored as a new file, with its name printed or not
+  Put : (quiet : Bool) (image name : Text) → Wanted
+  -- the same, as a new file or in place of a text of that name
+  Set : (quiet : Bool) (image name : Text) → Wanted
   -- the files of these names purged
   Purge : (image : Text) (names : List Text) → Wanted
   -- a file renamed
@@ -49,6 +53,8 @@ pub data Wanted : Type 0 where
 abbrev pub changing_topic : Text → Option Topic
 changing_topic name =
     if bytes_eq name (codes "new") then Some topic.New
+    else if bytes_eq name (codes "put") then Some topic.Put
+    else if bytes_eq name (codes "set") then Some topic.Set
     else if bytes_eq name (codes "purge") then Some topic.Purge
     else if bytes_eq name (codes "rename") then Some topic.Rename
     else if bytes_eq name (codes "adopt") then Some topic.Adopt
@@ -99,6 +105,10 @@ asked_for topic.Diff rows = option_map (λ p. Diff p.0 p.1) (pair_in (codes "ima
 asked_for topic.New rows =
     option_map (λ t. New (is_switched_on (codes "disc") rows) (is_switched_on (codes "small") rows) t.0 t.1 t.2)
     (triple_in (codes "image") (codes "label") (codes "slots") rows)
+asked_for topic.Put rows =
+    option_map (λ p. Put (is_switched_on (codes "quiet") rows) p.0 p.1) (pair_in (codes "image") (codes "name") rows)
+asked_for topic.Set rows =
+    option_map (λ p. Set (is_switched_on (codes "quiet") rows) p.0 p.1) (pair_in (codes "image") (codes "name") rows)
 asked_for topic.Purge rows =
     option_and_then (λ i. option_map (Purge i) (all_of (codes "names") rows)) (first_of (codes "image") rows)
 asked_for topic.Rename rows =
@@ -110,6 +120,8 @@ asked_for topic.Help rows = help_in (first_of (codes "job") rows)
 -- a job that makes or changes an image, or help
 abbrev pub changes_or_helps : Topic → Bool
 changes_or_helps topic.New = true
+changes_or_helps topic.Put = true
+changes_or_helps topic.Set = true
 changes_or_helps topic.Purge = true
 changes_or_helps topic.Rename = true
 changes_or_helps topic.Adopt = true
@@ -152,6 +164,8 @@ job_asked (job.Map svg image) = Map svg image.now
 job_asked (job.Why image) = Why image.now
 job_asked (job.Diff image other) = Diff image.now other.now
 job_asked (job.New disc small image label slots) = New disc small image.now label.now slots.now
+job_asked (job.Put quiet image name) = Put quiet image.now name.now
+job_asked (job.Set quiet image name) = Set quiet image.now name.now
 job_asked (job.Purge image names) = Purge image.now (map (λ s. s.now) names.now)
 job_asked (job.Rename image old new) = Rename image.now old.now new.now
 job_asked (job.Adopt image) = Adopt image.now

@@ -1,5 +1,5 @@
 -- The simple command that takes the arguments: a subcommand for each job.
-use Rattle.std.specs.Prelude.{Bool, true, false, Option, Some, None, List, codes}
+use Rattle.std.specs.Prelude.{ℕ, Bool, true, false, Option, Some, None, List, codes}
 use Rattle.std.specs.Str.{bytes_eq}
 use Rattle.clap.specs.Words.{App, Rule, Row, Text, new_app, new_rule, with_rule, with_subcommand, first_of}
 use Rattle.clap.specs.declared.builder.action.ArgAction.TheVariants.{Append, Set, SetTrue}
@@ -9,6 +9,10 @@ use Rattle.tape_words.specs.declared.jobs.Topic.TheVariants as topic
 -- an option without a value, named in full
 abbrev pub switch_rule : Text → Rule
 switch_rule id = record (new_rule id) { long = Some id; action = Some SetTrue }
+
+-- the same, also named by one character
+abbrev pub short_switch_rule : Text → ℕ → Rule
+short_switch_rule id short = record (switch_rule id) { short = Some short }
 
 -- at most one argument that is not an option
 abbrev pub one_rule : Text → Rule
@@ -67,6 +71,11 @@ abbrev pub new_image_app : App
 new_image_app = with_rule (with_rule (with_rule new_volume_app (switch_rule (codes "disc"))) (switch_rule (codes "small")))
     (switch_rule (codes "help"))
 
+-- a job that stores a text, as `put [-q] [--help] IMAGE NAME`; 113 is the code of `q`
+abbrev pub store_app : Text → App
+store_app job = with_rule (with_rule (with_rule (with_rule (plain_app job) (one_rule (codes "image"))) (one_rule (codes "name")))
+    (short_switch_rule (codes "quiet") 113)) (switch_rule (codes "help"))
+
 -- `purge [--help] IMAGE NAME..`
 abbrev pub purge_app : App
 purge_app = with_rule (with_rule (with_rule (plain_app (codes "purge")) (one_rule (codes "image"))) (several_rule (codes "names")))
@@ -91,6 +100,8 @@ app_for topic.Map = map_app
 app_for topic.Why = image_app (codes "why")
 app_for topic.Diff = diff_app
 app_for topic.New = new_image_app
+app_for topic.Put = store_app (codes "put")
+app_for topic.Set = store_app (codes "set")
 app_for topic.Purge = purge_app
 app_for topic.Rename = rename_app
 app_for topic.Adopt = image_app (codes "adopt")
@@ -115,9 +126,10 @@ abbrev pub telling_app : App
 telling_app = with_subcommand (with_subcommand (with_subcommand (with_subcommand reading_app
     (app_for topic.Free).top) (app_for topic.Map).top) (app_for topic.Why).top) (app_for topic.Diff).top
 
--- and with the one that makes an image
+-- and with those that make an image or store a text
 abbrev pub making_app : App
-making_app = with_subcommand telling_app (app_for topic.New).top
+making_app = with_subcommand (with_subcommand (with_subcommand telling_app
+    (app_for topic.New).top) (app_for topic.Put).top) (app_for topic.Set).top
 
 -- and with those that change images
 abbrev pub changing_app : App

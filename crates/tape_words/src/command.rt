@@ -141,6 +141,24 @@ fn new_job<'r, 'a>(found: &'r ArgMatches<'a>) -> Option<Job<'r>>
     })
 }
 
+/// The job that stores a text as a new file, with the arguments that were found for it.
+fn put_job<'r, 'a>(found: &'r ArgMatches<'a>) -> Option<Job<'r>>
+    ensures { option_map job_asked result ≡ asked_for topics.Put (rows_of (found_of found.now)) }
+{
+    let (image, name) = pair(found, "image", "name")?;
+    let quiet = is_switched_on(found, "quiet");
+    Some(Job::Put { quiet, image, name })
+}
+
+/// The job that stores a text as a new file or in place of one, with the arguments that were found for it.
+fn set_job<'r, 'a>(found: &'r ArgMatches<'a>) -> Option<Job<'r>>
+    ensures { option_map job_asked result ≡ asked_for topics.Set (rows_of (found_of found.now)) }
+{
+    let (image, name) = pair(found, "image", "name")?;
+    let quiet = is_switched_on(found, "quiet");
+    Some(Job::Set { quiet, image, name })
+}
+
 /// The job that makes or changes an image, with the arguments that were found for it; or that of help.
 fn changing_job<'r, 'a>(topic: Topic, found: &'r ArgMatches<'a>) -> Option<Job<'r>>
     requires { changes_or_helps topic ≡ true }
@@ -148,6 +166,8 @@ fn changing_job<'r, 'a>(topic: Topic, found: &'r ArgMatches<'a>) -> Option<Job<'
 {
     match topic {
         Topic::New => new_job(found),
+        Topic::Put => put_job(found),
+        Topic::Set => set_job(found),
         Topic::Purge => {
             let image = value(found, "image")?;
             let names = values(found, "names")?;

@@ -38,7 +38,7 @@ fn needs(topic: Topic) -> &'static str {
     match topic {
         Topic::Dir => "at least one IMAGE",
         Topic::Out => "IMAGE and FOLDER",
-        Topic::Get | Topic::Raw => "IMAGE and NAME",
+        Topic::Get | Topic::Raw | Topic::Put | Topic::Set => "IMAGE and NAME",
         Topic::Free | Topic::Map | Topic::Why | Topic::Adopt | Topic::Upgrade => "IMAGE",
         Topic::Diff => "IMAGE and OTHER",
         Topic::New => "IMAGE, LABEL and SLOTS",

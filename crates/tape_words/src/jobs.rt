@@ -22,6 +22,10 @@ pub enum Topic {
     Diff,
     /// `tape new`.
     New,
+    /// `tape put`.
+    Put,
+    /// `tape set`.
+    Set,
     /// `tape purge`.
     Purge,
     /// `tape rename`.
@@ -107,6 +111,24 @@ pub enum Job<'a> {
         /// How many slots the directory has at least: any text, which need not be a number.
         slots: &'a str,
     },
+    /// Stores a text from standard input as a new file.
+    Put {
+        /// Whether the name of the stored file is not printed.
+        quiet: bool,
+        /// The name of the image.
+        image: &'a str,
+        /// The name that the file gets.
+        name: &'a str,
+    },
+    /// Stores a text from standard input as a new file, or in place of a text of that name.
+    Set {
+        /// Whether the name of the stored file is not printed.
+        quiet: bool,
+        /// The name of the image.
+        image: &'a str,
+        /// The name of the file.
+        name: &'a str,
+    },
     /// Purges files of an image.
     Purge {
         /// The name of the image.
@@ -179,6 +201,12 @@ fn changing_topic(name: &str) -> Option<Topic>
 {
     if name == "new" {
         return Some(Topic::New);
+    }
+    if name == "put" {
+        return Some(Topic::Put);
+    }
+    if name == "set" {
+        return Some(Topic::Set);
     }
     if name == "purge" {
         return Some(Topic::Purge);

@@ -1,9 +1,10 @@
-ghost use Rattle.std.specs.Prelude.{◌≡◌, IfOk, true, false};
+ghost use Rattle.std.specs.Prelude.{◌≡◌, IfOk, true, false, codes};
 ghost use Rattle.clap.specs.Words.{app_of, rule_of};
 ghost use Rattle.clap.specs.declared.builder.command.Command.TheViews.{out-Command};
-ghost use Rattle.tape_words.specs.Simple.{switch_rule, one_rule, several_rule};
-ghost use Rattle.tape_words.specs.Simple.{plain_app, dir_app, out_app, file_app, image_app, map_app, diff_app, help_app, purge_app, rename_app};
-ghost use Rattle.tape_words.specs.Simple.{new_volume_app, new_image_app};
+ghost use Rattle.tape_words.specs.Simple.{switch_rule, short_switch_rule, one_rule, several_rule};
+ghost use Rattle.tape_words.specs.Simple.{plain_app, dir_app, out_app, file_app, image_app, map_app};
+ghost use Rattle.tape_words.specs.Simple.{diff_app, help_app, purge_app, rename_app};
+ghost use Rattle.tape_words.specs.Simple.{new_volume_app, new_image_app, store_app};
 ghost use Rattle.tape_words.specs.Simple.{app_for};
 ghost use Rattle.tape_words.specs.Asked.{changes_or_helps};
 ghost use Rattle.tape_words.specs.Simple.{top_app, program_app, tape_app, page_app};
@@ -17,6 +18,9 @@ const IMAGE_HELP: &str = "The image file";
 
 /// What a page of help says of NAME.
 const NAME_HELP: &str = "The name of a file; %HH is the byte HH hex";
+
+/// What a page of help says of the NAME of a file that is stored.
+const NEW_NAME_HELP: &str = "The file's name: a capital letter, then capital letters, digits and _";
 
 /// What a page of help says of LABEL.
 const LABEL_HELP: &str =
@@ -33,6 +37,17 @@ const DISC_HELP: &str = "Make a disc of 630,784 bytes, not a tape of 131,072 byt
 const SMALL_HELP: &str =
     "Make a redo file of 4 records, not 34: no file can be replaced before 'tape upgrade'";
 
+/// What the page of `put` says at its end.
+const PUT_HELP: &str = "\
+'tape put' reads the text to its end before it opens IMAGE. Once the text is stored,
+'tape put' prints NAME, unless '-q' is given.";
+
+/// What the page of `set` says at its end.
+const SET_HELP: &str = "\
+'tape set' reads the text to its end before it opens IMAGE. It replaces a text file of that
+name whole or not at all. If a file of that name has another type, that file stays as it is,
+and a message says so. Once the text is stored, 'tape set' prints NAME, unless '-q' is given.";
+
 /// An option without a value.
 fn flag<'a>(alloc: Global, id: &'a str, help: &'a str) -> Arg<'a>
     ensures rule { rule_of result ≡ switch_rule id.entry.now }
@@ -42,6 +57,14 @@ fn flag<'a>(alloc: Global, id: &'a str, help: &'a str) -> Arg<'a>
         .long(id)
         .help(help)
         .action(ArgAction::SetTrue)
+}
+
+/// An option without a value, which one character names too.
+fn short_flag<'a>(alloc: Global, id: &'a str, short: char, help: &'a str) -> Arg<'a>
+    ensures rule { rule_of result ≡ short_switch_rule id.entry.now short }
+    ensures local { result.global ≡ false }
+{
+    flag(alloc, id, help).short(short)
 }
 
 /// At most one argument that is not an option.
@@ -241,6 +264,55 @@ fn new_image<'a>(alloc: Global) -> Result<Command<'a>, AllocError>
     Ok(command)
 }
 
+/// The command of a job that stores a text.
+fn store<'a>(
+    alloc: Global,
+    job: &'a str,
+    about: &'a str,
+    usage: &'a str,
+) -> Result<Command<'a>, AllocError>
+    ensures app { IfOk result (λ c. app_of c ≡ store_app job.entry.now) }
+    ensures local { IfOk result (λ c. (out-Command c).has_globals ≡ false) }
+{
+    let command = plain(alloc, job, about, usage)
+        .arg(one(alloc, "image", "IMAGE", IMAGE_HELP))?
+        .arg(one(alloc, "name", "NAME", NEW_NAME_HELP))?
+        .arg(short_flag(
+            alloc,
+            "quiet",
+            'q',
+            "Do not print the name of the stored file",
+        ))?
+        .arg(flag(alloc, "help", "Print this page"))?;
+    Ok(command)
+}
+
+fn put<'a>(alloc: Global) -> Result<Command<'a>, AllocError>
+    ensures app { IfOk result (λ c. app_of c ≡ store_app (codes "put")) }
+    ensures local { IfOk result (λ c. (out-Command c).has_globals ≡ false) }
+{
+    let command = store(
+        alloc,
+        "put",
+        "Stores a text from standard input as a new file NAME",
+        "tape put [OPTIONS] IMAGE NAME",
+    )?;
+    Ok(command.after_help(PUT_HELP))
+}
+
+fn set<'a>(alloc: Global) -> Result<Command<'a>, AllocError>
+    ensures app { IfOk result (λ c. app_of c ≡ store_app (codes "set")) }
+    ensures local { IfOk result (λ c. (out-Command c).has_globals ≡ false) }
+{
+    let command = store(
+        alloc,
+        "set",
+        "Stores a text from standard input as file NAME, new or in place of a text of that name",
+        "tape set [OPTIONS] IMAGE NAME",
+    )?;
+    Ok(command.after_help(SET_HELP))
+}
+
 fn purge<'a>(alloc: Global) -> Result<Command<'a>, AllocError>
     ensures app { IfOk result (λ c. app_of c ≡ purge_app) }
     ensures local { IfOk result (λ c. (out-Command c).has_globals ≡ false) }
@@ -287,6 +359,8 @@ fn changing_command<'a>(alloc: Global, topic: Topic) -> Result<Command<'a>, Allo
 {
     match topic {
         Topic::New => new_image(alloc),
+        Topic::Put => put(alloc),
+        Topic::Set => set(alloc),
         Topic::Purge => purge(alloc),
         Topic::Rename => rename(alloc),
         Topic::Adopt => image(
@@ -382,6 +456,8 @@ pub(crate) fn command<'a>(alloc: Global) -> Result<Command<'a>, AllocError>
         .subcommand(job_command(alloc, Topic::Why)?)?
         .subcommand(job_command(alloc, Topic::Diff)?)?
         .subcommand(job_command(alloc, Topic::New)?)?
+        .subcommand(job_command(alloc, Topic::Put)?)?
+        .subcommand(job_command(alloc, Topic::Set)?)?
         .subcommand(job_command(alloc, Topic::Purge)?)?
         .subcommand(job_command(alloc, Topic::Rename)?)?
         .subcommand(job_command(alloc, Topic::Adopt)?)?

@@ -1,8 +1,8 @@
 use Rattle.std.proofs.Common.{◌≡◌, true, false, ◌∙◌, ◌+◌, ◌++◌, ◌∷◌, [], length, refl, ap, arith, rules}
-use Rattle.std.proofs.lemmas.List.{drop_all, drop_more, length-append}
+use Rattle.std.proofs.lemmas.List.{drop_all, length-append}
 use Rattle.tape_changes.specs.declared.changing.Next.TheVariants as next
 use Rattle.tape_changes.specs.Changing.{FrontIsLeft, commands_of}
-use Rattle.tape_changes.proofs.Steps.{after_next, after_none, beside_all, beside_next, beside_none, beside_on, commands_next, joins_all, joins_last, joins_next, joins_none, left_at, pushed}
+use Rattle.tape_changes.proofs.Steps.{after_next, after_none, beside_all, beside_next, beside_none, beside_on, commands_next, joins_all, joins_last, joins_next, joins_none, left_at, pushed, step_next}
 use Rattle.tape_changes.proofs.changing.take_steps.Goals as goal
 
 pub steps-init : goal.steps-init
@@ -21,7 +21,7 @@ pub returns-in-Ends-clause-taken : goal.returns-in-Ends-clause-taken
 returns-in-Ends-clause-taken g c =
     let now = c.steps in
     let more : c.push.new.self.items ≡ now.replies.items ++ c.change-reply.result ∷ [] = pushed _ _ _ _ _ _ c.push.ensures.full (omega (arith, now.invariant.count, c.steps-test.true, now.invariant.space)) c.push.ensures.items in
-    joins_last _ _ _ _ _ _ _ _ now.invariant.joins _ _ c.change-reply.result c.push.new.self.items _ _ next.Ends false (drop_more c.args.steps.now now.step-index _ c.steps-test.true) more
+    joins_last _ _ _ _ _ _ _ _ now.invariant.joins _ _ c.change-reply.result c.push.new.self.items _ _ next.Ends false (step_next c.args.steps.now now.step-index _ c.steps-test.true c.step-item.is) more
     (record { did = c.change-reply.ensures.did; tells = c.in-Ends.ensures }) (refl, refl, refl, refl)
 
 pub returns-in-Ends-clause-beside : goal.returns-in-Ends-clause-beside
@@ -29,13 +29,13 @@ returns-in-Ends-clause-beside g c =
     let v = g.V.Volumes.seen in
     let now = c.steps in
     beside_next now.step-index _ _ (v c.args.volumes.now) (v now.volumes) (v c.change-reply.new.self) now.invariant.after.seen
-    (left_at c.args.steps.now now.step-index _ (v c.args.volumes.now).mounted (v now.volumes).mounted c.steps-test.true now.invariant.after) now.invariant.beside c.change-reply.ensures.beside
+    (left_at c.args.steps.now now.step-index _ (v c.args.volumes.now).mounted (v now.volumes).mounted c.steps-test.true c.step-item.is now.invariant.after) now.invariant.beside c.change-reply.ensures.beside
 
 pub returns-in-LosesOutput-clause-taken : goal.returns-in-LosesOutput-clause-taken
 returns-in-LosesOutput-clause-taken g c =
     let now = c.steps in
     let more : c.push.new.self.items ≡ now.replies.items ++ c.change-reply.result ∷ [] = pushed _ _ _ _ _ _ c.push.ensures.full (omega (arith, now.invariant.count, c.steps-test.true, now.invariant.space)) c.push.ensures.items in
-    joins_last _ _ _ _ _ _ _ _ now.invariant.joins _ _ c.change-reply.result c.push.new.self.items _ _ next.LosesOutput true (drop_more c.args.steps.now now.step-index _ c.steps-test.true) more
+    joins_last _ _ _ _ _ _ _ _ now.invariant.joins _ _ c.change-reply.result c.push.new.self.items _ _ next.LosesOutput true (step_next c.args.steps.now now.step-index _ c.steps-test.true c.step-item.is) more
     (record { did = c.change-reply.ensures.did; tells = c.in-LosesOutput.ensures }) (refl, refl, refl, refl)
 
 pub returns-in-LosesOutput-clause-beside : goal.returns-in-LosesOutput-clause-beside
@@ -43,7 +43,7 @@ returns-in-LosesOutput-clause-beside g c =
     let v = g.V.Volumes.seen in
     let now = c.steps in
     beside_next now.step-index _ _ (v c.args.volumes.now) (v now.volumes) (v c.change-reply.new.self) now.invariant.after.seen
-    (left_at c.args.steps.now now.step-index _ (v c.args.volumes.now).mounted (v now.volumes).mounted c.steps-test.true now.invariant.after) now.invariant.beside c.change-reply.ensures.beside
+    (left_at c.args.steps.now now.step-index _ (v c.args.volumes.now).mounted (v now.volumes).mounted c.steps-test.true c.step-item.is now.invariant.after) now.invariant.beside c.change-reply.ensures.beside
 
 pub steps-preserved : goal.steps-preserved
 steps-preserved g c =
@@ -54,12 +54,12 @@ steps-preserved g c =
       valid = c.change-reply.ensures.valid;
       count = ap length more ∙ length-append now.replies.items (c.change-reply.result ∷ []) ∙ ap (λ n. n + 1) now.invariant.count;
       space = search rules;
-      joins = joins_next _ _ _ _ _ _ _ _ now.invariant.joins _ _ c.change-reply.result c.push.new.self.items _ _ (drop_more c.args.steps.now now.step-index _ c.steps-test.true) more
+      joins = joins_next _ _ _ _ _ _ _ _ now.invariant.joins _ _ c.change-reply.result c.push.new.self.items _ _ (step_next c.args.steps.now now.step-index _ c.steps-test.true c.step-item.is) more
           (record { did = c.change-reply.ensures.did; tells = c.in-GoesOn.ensures });
-      after = after_next _ _ _ (commands_next c.args.steps.now now.step-index _ c.steps-test.true) (v c.args.volumes.now).mounted (v now.volumes).mounted now.invariant.after _ c.change-reply.result _
+      after = after_next _ _ _ (commands_next c.args.steps.now now.step-index _ c.steps-test.true c.step-item.is) (v c.args.volumes.now).mounted (v now.volumes).mounted now.invariant.after _ c.change-reply.result _
           (v c.change-reply.new.self).mounted _ _ c.change-reply.ensures.did c.in-GoesOn.ensures;
       beside = beside_on now.step-index _ (v c.args.volumes.now) (v c.change-reply.new.self) (beside_next now.step-index _ _ (v c.args.volumes.now) (v now.volumes) (v c.change-reply.new.self) now.invariant.after.seen
-          (left_at c.args.steps.now now.step-index _ (v c.args.volumes.now).mounted (v now.volumes).mounted c.steps-test.true now.invariant.after) now.invariant.beside c.change-reply.ensures.beside);
+          (left_at c.args.steps.now now.step-index _ (v c.args.volumes.now).mounted (v now.volumes).mounted c.steps-test.true c.step-item.is now.invariant.after) now.invariant.beside c.change-reply.ensures.beside);
     }
 
 pub returns-clause-taken : goal.returns-clause-taken

@@ -1,0 +1,3 @@
+pub mod Taken
+mod Lines
+mod Examples
