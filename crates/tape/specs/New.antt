@@ -73,7 +73,7 @@ with_upgrade false format = format ∷ redo_step change.Upgrade (codes "34 recor
 -- ---- an image that was made
 
 abbrev pub left_line : (image : List ℕ) → List ℕ
-left_line image = told_line image (codes "the image was made, but not its volume, and it could not be removed") []
+left_line image = told_line image (codes "the image was made, but not all was done, and it could not be removed") []
 
 -- a message says so if the image could not be removed
 abbrev pub SaysLeft : (gone : Bool) → (image : List ℕ) → (before now : Option (List ℕ)) (faults faults_now : ℕ) → Type 0
@@ -112,7 +112,7 @@ abbrev pub not_made_cause : NotMade → List ℕ
 not_made_cause not_made.Exists = codes "there is something of that name already"
 not_made_cause not_made.NotLooked = codes "it could not be found out whether something has that name"
 not_made_cause not_made.Failed = codes "the image could not be made, and nothing of it is left"
-not_made_cause not_made.Left = codes "the image could not be made, and something of that name is there now"
+not_made_cause not_made.Left = codes "the image could not be made, and something of that name may be there now"
 not_made_cause not_made.OutOfMemory = codes "there is not enough memory"
 
 abbrev pub not_made_status : NotMade → ℕ

@@ -72,7 +72,8 @@ fn not_made_cause(why: NotMade) -> &'static [u8]
         NotMade::Exists => b"there is something of that name already",
         NotMade::NotLooked => b"it could not be found out whether something has that name",
         NotMade::Failed => b"the image could not be made, and nothing of it is left",
-        NotMade::Left => b"the image could not be made, and something of that name is there now",
+        NotMade::Left =>
+            b"the image could not be made, and something of that name may be there now",
         NotMade::OutOfMemory => b"there is not enough memory",
     }
 }
@@ -110,7 +111,7 @@ fn end_with<M: Medium + Drop, W: Makers<M>, E: Sink>(
         write_cause(
             error,
             image,
-            b"the image was made, but not its volume, and it could not be removed",
+            b"the image was made, but not all was done, and it could not be removed",
         );
     }
 }

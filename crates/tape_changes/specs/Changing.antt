@@ -25,7 +25,7 @@ was_made reply.Ok = true
 was_made r = false
 
 -- What the job does after a step, by the reply to its change. If the change was made, the line of the step is written to
--- standard output; the job ends if that fails. It ends after a fault, and, if it ends early, after a refusal.
+-- standard output; the job ends if that fails. It ends after a fault, and, if `early` is set, after a refusal.
 abbrev pub NextBy : (ends_early : Bool) → Reply → (line : List ℕ) → Next → (before now : Option (List ℕ)) (faults faults_now : ℕ) → Type 0
 NextBy early reply.Ok line next.GoesOn before now faults faults_now = Appends before now line × (faults_now ≡ faults)
 NextBy early reply.Ok line next.LosesOutput before now faults faults_now = WritesFront before now line × Rose faults faults_now

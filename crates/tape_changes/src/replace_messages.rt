@@ -96,8 +96,8 @@ fn write_message_of<K: Sink>(
     }
 }
 
-/// Writes the message of a job that stores a text file, whose name is this text, unless the file was stored. It is lost
-/// if standard error cannot be written.
+/// Writes the message of a job that stores a text file, whose name is this text, unless all was done. It is lost if
+/// standard error cannot be written.
 pub fn write_replaced<K: Sink>(
     to: &mut K,
     image: &str,

@@ -14,7 +14,7 @@ const PIECE: usize = 4_096;
 pub enum NoText {
     /// The source could not be read.
     Unread,
-    /// The text has more bytes than a disc, or its file would have: 630,784.
+    /// The text, or the file that it makes, has more than 630,784 bytes, the size of a disc.
     TooLarge,
     /// This line of the text, counted from 1, has more than 32,767 bytes.
     LongLine(usize),
