@@ -1,19 +1,20 @@
 -- The text of a directory that is kept in memory is that of the volume.
-use Rattle.std.proofs.Common.{◌≡◌, ◌∙◌, ℕ, Bool, List, Option, Some, refl, sym, ap, subst}
+use Rattle.std.proofs.Common.{◌≡◌, ◌≢◌, ◌∙◌, ℕ, Bool, List, Option, Some, refl, sym, ap, subst}
 use Rattle.std.specs.Io.KnownBytes.{Appends}
 use Rattle.lif_model.specs.Header.{HeaderParts, header_of}
+use Rattle.lif_model.specs.Tape.{Tape}
 use Rattle.lif_model.specs.Volume.{Volume}
 use Rattle.lif_dir.specs.declared.entries.Slot.{Slot}
 use Rattle.il_ports.specs.Writing.{WritesFront}
 use Rattle.tape_jobs.specs.Dir.{WritesListing, styled_text, volume_text}
 use Rattle.tape_volumes.specs.Outputs.{WritesText}
-use Rattle.tape_volumes.specs.Volumes.{IsDirectoryAt}
+use Rattle.tape_volumes.specs.Volumes.{IsDirectoryAt, volume_shown}
 use Rattle.tape_jobs.specs.declared.listing.Style.{Style}
 use Rattle.tape_volumes.specs.declared.went.Went.{Went}
 use Rattle.tape_volumes.specs.declared.went.Went.TheVariants as went
 
-module _ (style : Style) (all : Bool) (n : ℕ) (shown : Option (Option Volume)) (header : HeaderParts) (slots : List Slot) (is : IsDirectoryAt shown header slots) where
-  is_volume_text : (v : Volume) → shown ≡ Some (Some v) → styled_text style all n header slots ≡ volume_text style all n v
+module _ (style : Style) (all : Bool) (n : ℕ) (tape : Option Tape) (header : HeaderParts) (slots : List Slot) (is : IsDirectoryAt (volume_shown tape) header slots) where
+  is_volume_text : (v : Volume) → volume_shown tape ≡ Some (Some v) → styled_text style all n header slots ≡ volume_text style all n v
   is_volume_text v here =
       let found = is (Some v) here in
       ap (λ (h : HeaderParts). styled_text style all n h slots) found.2.header_is
@@ -23,19 +24,19 @@ module _ (style : Style) (all : Bool) (n : ℕ) (shown : Option (Option Volume))
       same_volume : (v w : Volume) → Some (Some v) ≡ Some (Some w) → v ≡ w
       same_volume v w e = cc
 
-  listed : (lacks : Type 0) (w : Went) (before now : Option (List ℕ)) (faults faults_now : ℕ) → (w ≡ went.OutOfMemory → lacks)
-      → WritesText w (styled_text style all n header slots) before now faults faults_now → WritesListing lacks w (volume_text style all n) shown before now faults faults_now
-  listed lacks went.Done before now faults faults_now memory writes = (λ v here. subst (Appends before now) (is_volume_text v here) writes.0, writes.1)
-  listed lacks went.Unwritten before now faults faults_now memory writes = (λ v here. subst (WritesFront before now) (is_volume_text v here) writes.0, writes.1)
-  listed lacks went.OutOfMemory before now faults faults_now memory writes = (memory refl, writes)
-  listed lacks (went.Refused code) before now faults faults_now memory writes = absurd writes
-  listed lacks went.Fault before now faults faults_now memory writes = absurd writes
-  listed lacks went.NoSize before now faults faults_now memory writes = absurd writes
-  listed lacks went.FolderLost before now faults faults_now memory writes = absurd writes
-  listed lacks went.NotAll before now faults faults_now memory writes = absurd writes
+  listed : (w : Went) (before now : Option (List ℕ)) (faults faults_now : ℕ) → w ≢ went.OutOfMemory
+      → WritesText w (styled_text style all n header slots) before now faults faults_now → WritesListing w (volume_text style all n) tape before now faults faults_now
+  listed went.Done before now faults faults_now memory writes = (λ v here. subst (Appends before now) (is_volume_text v here) writes.0, writes.1)
+  listed went.Unwritten before now faults faults_now memory writes = (λ v here. subst (WritesFront before now) (is_volume_text v here) writes.0, writes.1)
+  listed went.OutOfMemory before now faults faults_now memory writes = absurd (memory refl)
+  listed (went.Refused code) before now faults faults_now memory writes = absurd writes
+  listed went.Fault before now faults faults_now memory writes = absurd writes
+  listed went.NoSize before now faults faults_now memory writes = absurd writes
+  listed went.FolderLost before now faults faults_now memory writes = absurd writes
+  listed went.NotAll before now faults faults_now memory writes = absurd writes
 
-  -- the text was made of these parts
-  pub writes_listing : (lacks : Type 0) (size : ℕ) (first : HeaderParts) (entries : List Slot) → size ≡ n → first ≡ header → entries ≡ slots → (w : Went) (before now : Option (List ℕ)) (faults faults_now : ℕ)
-      → (w ≡ went.OutOfMemory → lacks) → WritesText w (styled_text style all size first entries) before now faults faults_now → WritesListing lacks w (volume_text style all n) shown before now faults faults_now
-  writes_listing lacks size first entries sizes headers tables w before now faults faults_now memory writes =
-      listed lacks w before now faults faults_now memory (subst (λ (text : List ℕ). WritesText w text before now faults faults_now) (λ i. styled_text style all (sizes i) (headers i) (tables i)) writes)
+  -- this text was made of these parts, and written
+  pub writes_listing : (size : ℕ) (first : HeaderParts) (entries : List Slot) → size ≡ n → first ≡ header → entries ≡ slots → (text : List ℕ) → text ≡ styled_text style all size first entries
+      → (w : Went) (before now : Option (List ℕ)) (faults faults_now : ℕ) → w ≢ went.OutOfMemory → WritesText w text before now faults faults_now → WritesListing w (volume_text style all n) tape before now faults faults_now
+  writes_listing size first entries sizes headers tables text is_text w before now faults faults_now memory writes =
+      listed w before now faults faults_now memory (subst (λ (text : List ℕ). WritesText w text before now faults faults_now) (is_text ∙ (λ i. styled_text style all (sizes i) (headers i) (tables i))) writes)

@@ -1,5 +1,5 @@
 -- What the job `dir` does on one image, and each other job that writes a text for a volume.
-use Rattle.std.specs.Prelude.{◌≡◌, ◌⊎◌, ◌≤◌, ◌+◌, ◌++◌, ℕ, Bool, true, false, List, length, map, Option, Some, None, option_map}
+use Rattle.std.specs.Prelude.{◌≡◌, ◌≤◌, ◌+◌, ◌++◌, ℕ, Bool, List, length, map, Option, Some, None, option_map}
 use Rattle.std.specs.Io.KnownBytes.{Appends}
 use Rattle.lif_model.specs.Causes.{Rose}
 use Rattle.lif_model.specs.Header.{HeaderParts, header_of}
@@ -16,7 +16,7 @@ use Rattle.tape_text.specs.Rows.{rows_of, rows_text}
 use Rattle.tape_text.specs.Free.{free_text}
 use Rattle.tape_text.specs.Map.{map_text}
 use Rattle.tape_text.specs.Picture.{picture_text}
-use Rattle.tape_text.specs.Pages.{page_room}
+use Rattle.tape_text.specs.Pages.{page_room, rows_room}
 use Rattle.tape_volumes.specs.Volumes.{Mounted, CommandDid, DoneOrNot, volume_shown}
 use Rattle.tape_volumes.specs.Outputs.{WritesNothing}
 use Rattle.tape_jobs.specs.declared.listing.Style.{Style}
@@ -36,48 +36,37 @@ styled_text style.Picture all n h slots = picture_text n h slots
 abbrev pub volume_text : Style → Bool → ℕ → Volume → List ℕ
 volume_text style all n v = styled_text style all n (header_of v.header) (map slot_from v.slots)
 
--- the pages of a text have room for it; rows of CSV use no pages
+-- the pages of a text have room for it
 abbrev pub HasRoomFor : Style → (n room : ℕ) → Type 0
 HasRoomFor (style.Columns heading) n room = length (heading_of (option_map (λ name. name.now) heading)) + page_room n ≤ room
-HasRoomFor (style.Rows image) n room = Unit {0}
+HasRoomFor (style.Rows image) n room = rows_room image.now n ≤ room
 HasRoomFor style.Free n room = page_room n ≤ room
 HasRoomFor style.Map n room = page_room n ≤ room
 HasRoomFor style.Picture n room = page_room n ≤ room
 
--- rows of CSV take memory while they are written; each other text has all its memory before
-abbrev pub takes_memory : Style → Bool
-takes_memory (style.Columns heading) = false
-takes_memory (style.Rows image) = true
-takes_memory style.Free = false
-takes_memory style.Map = false
-takes_memory style.Picture = false
-
--- After the directory was read, memory can be short only for rows of CSV, or if contracts cannot see the tape.
-abbrev pub MayLackMemory : Style → Option Tape → Type 0
-MayLackMemory style tape = (takes_memory style ≡ true) ⊎ (tape ≡ None)
-
--- The text for the volume, if contracts can see it, was written: all of it; or a front of it, and then standard output failed; or there
--- was no memory, which may be only if `lacks` holds.
-abbrev pub WritesListing : (lacks : Type 0) → Went → (Volume → List ℕ) → Option (Option Volume) → (before now : Option (List ℕ)) (faults faults_now : ℕ) → Type 0
-WritesListing lacks went.Done text shown before now faults faults_now =
-    ((v : Volume) → shown ≡ Some (Some v) → Appends before now (text v)) × (faults_now ≡ faults)
-WritesListing lacks went.Unwritten text shown before now faults faults_now =
-    ((v : Volume) → shown ≡ Some (Some v) → WritesFront before now (text v)) × Rose faults faults_now
-WritesListing lacks went.OutOfMemory text shown before now faults faults_now = lacks × WritesNothing before now faults faults_now
-WritesListing lacks _ text shown before now faults faults_now = ⊥
+-- The text for the volume of a tape, if contracts can see it, was written: all of it; or a front of it, and then standard output failed.
+-- Or there was no memory, which is possible only if contracts cannot see the tape: then its directory may have more slots than the
+-- pages have room for.
+abbrev pub WritesListing : Went → (Volume → List ℕ) → Option Tape → (before now : Option (List ℕ)) (faults faults_now : ℕ) → Type 0
+WritesListing went.Done text tape before now faults faults_now =
+    ((v : Volume) → volume_shown tape ≡ Some (Some v) → Appends before now (text v)) × (faults_now ≡ faults)
+WritesListing went.Unwritten text tape before now faults faults_now =
+    ((v : Volume) → volume_shown tape ≡ Some (Some v) → WritesFront before now (text v)) × Rose faults faults_now
+WritesListing went.OutOfMemory text tape before now faults faults_now = (tape ≡ None) × WritesNothing before now faults faults_now
+WritesListing _ text tape before now faults faults_now = ⊥
 
 -- the job went so by the reply of the volume
-abbrev pub WentBy : Reply → (lacks : Type 0) → Went → (Volume → List ℕ) → Option (Option Volume) → (before now : Option (List ℕ)) (faults faults_now : ℕ) → Type 0
-WentBy reply.Ok lacks w text shown before now faults faults_now = WritesListing lacks w text shown before now faults faults_now
-WentBy (reply.No code) lacks w text shown before now faults faults_now = (w ≡ went.Refused code) × WritesNothing before now faults faults_now
-WentBy reply.FaultMedium lacks w text shown before now faults faults_now = (w ≡ went.Fault) × WritesNothing before now faults faults_now
-WentBy reply.FaultFrame lacks w text shown before now faults faults_now = ⊥
+abbrev pub WentBy : Reply → Went → (Volume → List ℕ) → Option Tape → (before now : Option (List ℕ)) (faults faults_now : ℕ) → Type 0
+WentBy reply.Ok w text tape before now faults faults_now = WritesListing w text tape before now faults faults_now
+WentBy (reply.No code) w text tape before now faults faults_now = (w ≡ went.Refused code) × WritesNothing before now faults faults_now
+WentBy reply.FaultMedium w text tape before now faults faults_now = (w ≡ went.Fault) × WritesNothing before now faults faults_now
+WentBy reply.FaultFrame w text tape before now faults faults_now = ⊥
 
 -- The volume was listed, and by its reply the job went so.
 pub record ListedSo (w : Went) (style : Style) (all : Bool) (s t : Mounted) (before now : Option (List ℕ)) (faults faults_now : ℕ) : Type 0 where
   pub answer : Reply
   pub did : CommandDid Dir answer s t
-  pub went_so : WentBy answer (MayLackMemory style t.tape) w (volume_text style all t.records) (volume_shown t.tape) before now faults faults_now
+  pub went_so : WentBy answer w (volume_text style all t.records) t.tape before now faults faults_now
 
 -- The volume was listed; or there was no memory for its text, and then nothing was read or written.
 abbrev pub DirDid : (w : Went) (style : Style) (all : Bool) (s t : Mounted) (before now : Option (List ℕ)) (faults faults_now : ℕ) → Type 0

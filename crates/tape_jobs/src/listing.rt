@@ -1,18 +1,15 @@
 ghost use Rattle.std.specs.Prelude.{◌≡◌, ◌≤◌, ◌*◌, true, length, IfOk};
 ghost use Rattle.lif_model.specs.Apply.{Dir};
-ghost use Rattle.tape_jobs.specs.Dir.{DirDid, HasRoomFor, MayLackMemory, WritesListing, styled_text};
-ghost use Rattle.tape_jobs.specs.Dir.{takes_memory, volume_text};
-ghost use Rattle.tape_volumes.specs.Outputs.{WritesText};
-ghost use Rattle.tape_volumes.specs.Volumes.{StaysBeside, StopLeaves, volume_shown};
-ghost use Rattle.tape_volumes.specs.declared.went.Went.TheVariants as went;
+ghost use Rattle.tape_jobs.specs.Dir.{DirDid, HasRoomFor, WritesListing, styled_text, volume_text};
+ghost use Rattle.tape_volumes.specs.Volumes.{StaysBeside, StopLeaves};
 
 use crate::slot_counts::are_few;
 use il_ports::Sink;
-use il_script::Reply;
+use il_script::{Page, Reply};
 use lif_dir::SlotTable;
 use lif_header::Header;
 use std::alloc::{AllocError, Global};
-use tape_text::{Pages, csv_rows};
+use tape_text::Pages;
 use tape_volumes::{VolumeJob, Volumes, Went, written};
 
 /// Which text is written for a volume.
@@ -30,56 +27,42 @@ pub enum Style<'a> {
     Picture,
 }
 
-/// Takes the pages for a text of a volume on a medium of `size` records. Rows of CSV use none.
+/// Takes the pages for a text of a volume on a medium of `size` records. The only error is want of memory.
 fn pages_for(alloc: Global, style: Style<'_>, size: u16) -> Result<Pages, AllocError>
     ensures { IfOk result (λ pages. HasRoomFor style.entry size pages) }
 {
     match style {
         Style::Columns(heading) => Pages::new(alloc, heading, size),
-        Style::Rows(_) => Pages::new(alloc, None, 0),
+        Style::Rows(image) => Pages::for_rows(alloc, image.as_bytes(), size),
         Style::Free | Style::Map | Style::Picture => Pages::new(alloc, None, size),
     }
 }
 
-/// Writes the text for a volume with this header and these slots, on a medium of `size` records. Only rows of CSV take
-/// memory.
-fn write_volume<K: Sink>(
-    alloc: Global,
+/// Returns the text for a volume with this header and these slots, on a medium of `size` records. It takes no memory.
+fn text_for(
     style: Style<'_>,
     all: bool,
     size: u16,
-    header: Header,
+    header: &Header,
     slots: &SlotTable,
     pages: Pages,
-    out: &mut K,
-) -> Went
+) -> Page
     requires few { length slots.now.slots ≤ 8 * size }
     requires room { HasRoomFor style size pages }
-    ensures text { WritesText result (styled_text style.entry all size header slots.now.slots)
-        (K.written out.old) (K.written out.new) (K.faults out.old) (K.faults out.new) }
-    ensures memory { result ≡ went.OutOfMemory → takes_memory style.entry ≡ true }
+    ensures { result.text ≡ styled_text style.entry all size header.now slots.now.slots }
 {
     match style {
-        Style::Columns(heading) => {
-            written(
-                out,
-                pages.listing(heading, all, size, &header, slots).text(),
-            )
-        }
-        Style::Rows(image) => match csv_rows(alloc, image.as_bytes(), all, size, &header, slots) {
-            Ok(rows) => written(out, rows.as_slice()),
-            Err(_) => Went::OutOfMemory,
-        },
-        Style::Free => written(out, pages.free_text(size, &header, slots).text()),
-        Style::Map => written(out, pages.map_text(size, &header, slots).text()),
-        Style::Picture => written(out, pages.picture_text(size, &header, slots).text()),
+        Style::Columns(heading) => pages.listing(heading, all, size, header, slots),
+        Style::Rows(image) => pages.rows(image.as_bytes(), all, size, header, slots),
+        Style::Free => pages.free_text(size, header, slots),
+        Style::Map => pages.map_text(size, header, slots),
+        Style::Picture => pages.picture_text(size, header, slots),
     }
 }
 
 /// Writes the text for the directory that is kept in memory. A directory has at most eight slots for each record of the
 /// medium, and the pages have room for these.
 fn write_listing<V: Volumes, K: Sink>(
-    alloc: Global,
     volumes: &V,
     style: Style<'_>,
     all: bool,
@@ -89,9 +72,8 @@ fn write_listing<V: Volumes, K: Sink>(
     requires valid { (V.seen volumes.now).valid }
     requires kept { (V.seen volumes.now).mounted.kept ≡ true }
     requires room { HasRoomFor style (V.seen volumes.now).mounted.records pages }
-    ensures { WritesListing (MayLackMemory style.entry (V.seen volumes.now).mounted.tape) result
-        (volume_text style.entry all (V.seen volumes.now).mounted.records)
-        (volume_shown (V.seen volumes.now).mounted.tape)
+    ensures { WritesListing result
+        (volume_text style.entry all (V.seen volumes.now).mounted.records) (V.seen volumes.now).mounted.tape
         (K.written out.old) (K.written out.new) (K.faults out.old) (K.faults out.new) }
 {
     let size = volumes.size();
@@ -101,11 +83,12 @@ fn write_listing<V: Volumes, K: Sink>(
     if !are_few(slots, size) {
         return Went::OutOfMemory;
     }
-    write_volume(alloc, style, all, size, header, slots, pages, out)
+    let page = text_for(style, all, size, &header, slots, pages);
+    written(out, page.text())
 }
 
 /// Writes a text for one image. All memory is taken before the directory is read, since to read it may settle or finish
-/// the tape; only rows of CSV take memory later.
+/// the tape.
 pub fn dir<V: Volumes, K: Sink>(
     alloc: Global,
     volumes: &mut V,
@@ -124,7 +107,7 @@ pub fn dir<V: Volumes, K: Sink>(
         return Went::OutOfMemory;
     };
     match volumes.list() {
-        Reply::Ok => write_listing(alloc, volumes, style, all, pages, out),
+        Reply::Ok => write_listing(volumes, style, all, pages, out),
         Reply::No(code) => Went::Refused(code),
         Reply::FaultFrame | Reply::FaultMedium => Went::Fault,
     }

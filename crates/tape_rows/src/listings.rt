@@ -16,9 +16,9 @@ A,B      E0D0 SDATA  4 records  1024 bytes  1985-11-23 14:30  00800000
 ";
 
 const ROWS: &str = "\
-A TAPE,HP71,STARTUP,E214,BASIC,4,4,777,1985-11-23 14:30,12060000
-A TAPE,HP71,\"A,B\",E0D0,SDATA,10,4,1024,1985-11-23 14:30,00800000
-A TAPE,HP71,REDOFILE,E0D0,SDATA,508,4,-,1985-11-23 14:30,00000000
+\"A \"\"TAPE\"\"\",HP71,STARTUP,E214,BASIC,4,4,777,1985-11-23 14:30,12060000
+\"A \"\"TAPE\"\"\",HP71,\"A,B\",E0D0,SDATA,10,4,1024,1985-11-23 14:30,00800000
+\"A \"\"TAPE\"\"\",HP71,REDOFILE,E0D0,SDATA,508,4,-,1985-11-23 14:30,00000000
 ";
 
 const FREE: &str = "\
@@ -76,7 +76,7 @@ fn a_volume_is_listed_as_rows(rt: HostRuntime) -> Result<(), Fail> {
     lists(
         &rt,
         Answer::Listed,
-        Style::Rows("A TAPE"),
+        Style::Rows("A \"TAPE\""),
         true,
         1000,
         Went::Done,

@@ -1,5 +1,6 @@
 mod Places
 mod Steps
+mod RowParts
 mod Reading
 mod Examples
 mod TextLines

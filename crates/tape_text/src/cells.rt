@@ -18,7 +18,7 @@ pub(crate) const WIDEST: usize = 40;
 pub(crate) fn name(cell: &mut Page, entry: &FileEntry)
     requires { cell.old.room ≡ WIDEST }
     ensures text { cell.new ≡ record { text = name_cell entry.now; room = WIDEST } }
-    ensures size { length cell.new.text ≤ WIDEST }
+    ensures size { length cell.new.text ≤ 30 }
 {
     cell.clear();
     cell.put_name(&entry.name.bytes());
@@ -43,7 +43,7 @@ pub(crate) fn kind(cell: &mut Page, entry: &FileEntry)
 pub(crate) fn records(cell: &mut Page, entry: &FileEntry)
     requires { cell.old.room ≡ WIDEST }
     ensures text { cell.new ≡ record { text = records_cell entry.now; room = WIDEST } }
-    ensures size { length cell.new.text ≤ WIDEST }
+    ensures size { length cell.new.text ≤ 10 }
 {
     cell.clear();
     cell.put_number(entry.length);
@@ -53,7 +53,7 @@ pub(crate) fn records(cell: &mut Page, entry: &FileEntry)
 pub(crate) fn bytes(cell: &mut Page, entry: &FileEntry)
     requires { cell.old.room ≡ WIDEST }
     ensures text { cell.new ≡ record { text = bytes_cell entry.now; room = WIDEST } }
-    ensures size { length cell.new.text ≤ WIDEST }
+    ensures size { length cell.new.text ≤ 20 }
 {
     cell.clear();
     let mut buffer = Buffer::new();
@@ -67,7 +67,7 @@ pub(crate) fn bytes(cell: &mut Page, entry: &FileEntry)
 pub(crate) fn date(cell: &mut Page, entry: &FileEntry)
     requires { cell.old.room ≡ WIDEST }
     ensures text { cell.new ≡ record { text = date_cell entry.now; room = WIDEST } }
-    ensures size { length cell.new.text ≤ WIDEST }
+    ensures size { length cell.new.text ≤ 16 }
 {
     cell.clear();
     put_date(cell, &entry.date);
@@ -76,7 +76,8 @@ pub(crate) fn date(cell: &mut Page, entry: &FileEntry)
 /// Makes the cell of the label of a volume.
 pub(crate) fn label(cell: &mut Page, header: &Header)
     requires { cell.old.room ≡ WIDEST }
-    ensures { cell.new ≡ record { text = printed header.now.label; room = WIDEST } }
+    ensures text { cell.new ≡ record { text = printed header.now.label; room = WIDEST } }
+    ensures size { length cell.new.text ≤ 18 }
 {
     cell.clear();
     cell.put_name(&header.label());
@@ -85,7 +86,8 @@ pub(crate) fn label(cell: &mut Page, header: &Header)
 /// Makes the cell of the type in hex digits, without its name.
 pub(crate) fn code(cell: &mut Page, entry: &FileEntry)
     requires { cell.old.room ≡ WIDEST }
-    ensures { cell.new ≡ record { text = type_cell entry.now; room = WIDEST } }
+    ensures text { cell.new ≡ record { text = type_cell entry.now; room = WIDEST } }
+    ensures size { length cell.new.text ≤ 4 }
 {
     cell.clear();
     cell.put_hex(&entry.kind.to_be_bytes());
@@ -94,7 +96,8 @@ pub(crate) fn code(cell: &mut Page, entry: &FileEntry)
 /// Makes the cell of the name of the type, without its digits.
 pub(crate) fn type_of(cell: &mut Page, entry: &FileEntry)
     requires { cell.old.room ≡ WIDEST }
-    ensures { cell.new ≡ record { text = type_name_cell entry.now; room = WIDEST } }
+    ensures text { cell.new ≡ record { text = type_name_cell entry.now; room = WIDEST } }
+    ensures size { length cell.new.text ≤ 8 }
 {
     cell.clear();
     match type_name(entry.kind) {
@@ -106,7 +109,8 @@ pub(crate) fn type_of(cell: &mut Page, entry: &FileEntry)
 /// Makes the cell of the first record.
 pub(crate) fn start(cell: &mut Page, entry: &FileEntry)
     requires { cell.old.room ≡ WIDEST }
-    ensures { cell.new ≡ record { text = decimal entry.now.start; room = WIDEST } }
+    ensures text { cell.new ≡ record { text = decimal entry.now.start; room = WIDEST } }
+    ensures size { length cell.new.text ≤ 10 }
 {
     cell.clear();
     cell.put_number(entry.start);
@@ -115,7 +119,8 @@ pub(crate) fn start(cell: &mut Page, entry: &FileEntry)
 /// Makes the cell of the implementation field.
 pub(crate) fn field(cell: &mut Page, entry: &FileEntry)
     requires { cell.old.room ≡ WIDEST }
-    ensures { cell.new ≡ record { text = field_cell entry.now; room = WIDEST } }
+    ensures text { cell.new ≡ record { text = field_cell entry.now; room = WIDEST } }
+    ensures size { length cell.new.text ≤ 8 }
 {
     cell.clear();
     cell.put_hex(&entry.implementation);

@@ -5,6 +5,7 @@
 mod cells;
 mod columns;
 mod dates;
+mod fields;
 mod free;
 mod holders;
 mod lines;
@@ -17,5 +18,5 @@ mod texts;
 mod volume;
 
 pub use pages::Pages;
-pub use table::{csv_rows, first_csv_row};
+pub use table::first_csv_row;
 pub use texts::{put_text, text_size};
