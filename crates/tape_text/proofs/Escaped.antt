@@ -46,7 +46,7 @@ bytes_small (byte ∷ text) =
       bytes_small text,
     )
 
-trimmed_short : (text : List ℕ) → length (trimmed text) ≤ length text
+pub trimmed_short : (text : List ℕ) → length (trimmed text) ≤ length text
 trimmed_short [] = omega arith
 trimmed_short (byte ∷ text) = go (trimmed text) (trimmed_short text)
   where

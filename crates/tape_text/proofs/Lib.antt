@@ -8,5 +8,6 @@ pub mod Largest
 mod Holdings
 mod Records
 mod Escaped
+mod Quoted
 mod MapExamples
 mod Sheets

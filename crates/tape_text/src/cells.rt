@@ -1,5 +1,6 @@
 //! The entries of the columns of a listing.
 ghost use Rattle.std.specs.Prelude.{◌≡◌, ◌≤◌, length, decimal};
+ghost use Rattle.csv.specs.Writing.{default_writer, field_text};
 ghost use Rattle.lif_model.specs.Printed.{printed};
 ghost use Rattle.tape_text.specs.Listing.{name_cell, type_cell, type_name_cell, kind_cell, records_cell, bytes_cell};
 ghost use Rattle.tape_text.specs.Listing.{date_cell, field_cell};
@@ -19,6 +20,7 @@ pub(crate) fn name(cell: &mut Page, entry: &FileEntry)
     requires { cell.old.room ≡ WIDEST }
     ensures text { cell.new ≡ record { text = name_cell entry.now; room = WIDEST } }
     ensures size { length cell.new.text ≤ 30 }
+    ensures field { length (field_text default_writer cell.new.text) ≤ 32 }
 {
     cell.clear();
     cell.put_name(&entry.name.bytes());
@@ -44,6 +46,7 @@ pub(crate) fn records(cell: &mut Page, entry: &FileEntry)
     requires { cell.old.room ≡ WIDEST }
     ensures text { cell.new ≡ record { text = records_cell entry.now; room = WIDEST } }
     ensures size { length cell.new.text ≤ 10 }
+    ensures field { length (field_text default_writer cell.new.text) ≤ 10 }
 {
     cell.clear();
     cell.put_number(entry.length);
@@ -54,6 +57,7 @@ pub(crate) fn bytes(cell: &mut Page, entry: &FileEntry)
     requires { cell.old.room ≡ WIDEST }
     ensures text { cell.new ≡ record { text = bytes_cell entry.now; room = WIDEST } }
     ensures size { length cell.new.text ≤ 20 }
+    ensures field { length (field_text default_writer cell.new.text) ≤ 20 }
 {
     cell.clear();
     let mut buffer = Buffer::new();
@@ -68,6 +72,7 @@ pub(crate) fn date(cell: &mut Page, entry: &FileEntry)
     requires { cell.old.room ≡ WIDEST }
     ensures text { cell.new ≡ record { text = date_cell entry.now; room = WIDEST } }
     ensures size { length cell.new.text ≤ 16 }
+    ensures field { length (field_text default_writer cell.new.text) ≤ 16 }
 {
     cell.clear();
     put_date(cell, &entry.date);
@@ -78,6 +83,7 @@ pub(crate) fn label(cell: &mut Page, header: &Header)
     requires { cell.old.room ≡ WIDEST }
     ensures text { cell.new ≡ record { text = printed header.now.label; room = WIDEST } }
     ensures size { length cell.new.text ≤ 18 }
+    ensures field { length (field_text default_writer cell.new.text) ≤ 20 }
 {
     cell.clear();
     cell.put_name(&header.label());
@@ -88,6 +94,7 @@ pub(crate) fn code(cell: &mut Page, entry: &FileEntry)
     requires { cell.old.room ≡ WIDEST }
     ensures text { cell.new ≡ record { text = type_cell entry.now; room = WIDEST } }
     ensures size { length cell.new.text ≤ 4 }
+    ensures field { length (field_text default_writer cell.new.text) ≤ 4 }
 {
     cell.clear();
     cell.put_hex(&entry.kind.to_be_bytes());
@@ -98,6 +105,7 @@ pub(crate) fn type_of(cell: &mut Page, entry: &FileEntry)
     requires { cell.old.room ≡ WIDEST }
     ensures text { cell.new ≡ record { text = type_name_cell entry.now; room = WIDEST } }
     ensures size { length cell.new.text ≤ 8 }
+    ensures field { length (field_text default_writer cell.new.text) ≤ 8 }
 {
     cell.clear();
     match type_name(entry.kind) {
@@ -111,6 +119,7 @@ pub(crate) fn start(cell: &mut Page, entry: &FileEntry)
     requires { cell.old.room ≡ WIDEST }
     ensures text { cell.new ≡ record { text = decimal entry.now.start; room = WIDEST } }
     ensures size { length cell.new.text ≤ 10 }
+    ensures field { length (field_text default_writer cell.new.text) ≤ 10 }
 {
     cell.clear();
     cell.put_number(entry.start);
@@ -121,6 +130,7 @@ pub(crate) fn field(cell: &mut Page, entry: &FileEntry)
     requires { cell.old.room ≡ WIDEST }
     ensures text { cell.new ≡ record { text = field_cell entry.now; room = WIDEST } }
     ensures size { length cell.new.text ≤ 8 }
+    ensures field { length (field_text default_writer cell.new.text) ≤ 8 }
 {
     cell.clear();
     cell.put_hex(&entry.implementation);

@@ -21,9 +21,8 @@ fn is_quoted(field: &[u8]) -> bool
 /// Appends a byte of a quoted field: a quote is doubled.
 #[tactic(auto, unfolding(csv::specs::Writing::escaped))]
 fn put_quoted_byte(page: &mut Page, byte: u8)
-    requires room { length page.old.text + 2 ≤ page.old.room }
+    requires room { length page.old.text + length (escaped default_writer (byte ∷ [])) ≤ page.old.room }
     ensures text { page.new ≡ record page.old { text = page.old.text ++ escaped default_writer (byte ∷ []) } }
-    ensures size { length page.new.text ≤ length page.old.text + 2 }
 {
     if byte == b'"' {
         page.put(b"\"\"");
@@ -34,9 +33,8 @@ fn put_quoted_byte(page: &mut Page, byte: u8)
 
 /// Appends a field between quotes.
 fn put_quoted(page: &mut Page, field: &[u8])
-    requires room { length page.old.text + 2 * length field.now + 2 ≤ page.old.room }
+    requires room { length page.old.text + length (quoted default_writer field.now) ≤ page.old.room }
     ensures text { page.new ≡ record page.old { text = page.old.text ++ quoted default_writer field.now } }
-    ensures size { length page.new.text ≤ length page.old.text + 2 * length field.now + 2 }
 {
     page.put(b"\"");
     'bytes: for byte in field {
@@ -45,11 +43,10 @@ fn put_quoted(page: &mut Page, field: &[u8])
     page.put(b"\"");
 }
 
-/// Appends the first field of a row. It is quoted if it has a comma, a quote, CR or LF.
-pub(crate) fn put_field(page: &mut Page, field: &[u8])
-    requires room { length page.old.text + 2 * length field.now + 2 ≤ page.old.room }
+/// Appends a field. It is quoted if it has a comma, a quote, CR or LF.
+fn put_field(page: &mut Page, field: &[u8])
+    requires room { length page.old.text + length (field_text default_writer field.now) ≤ page.old.room }
     ensures text { page.new ≡ record page.old { text = page.old.text ++ field_text default_writer field.now } }
-    ensures size { length page.new.text ≤ length page.old.text + 2 * length field.now + 2 }
 {
     if is_quoted(field) {
         put_quoted(page, field);
@@ -58,12 +55,21 @@ pub(crate) fn put_field(page: &mut Page, field: &[u8])
     }
 }
 
+/// Appends the first field of a row: at most twice as many bytes, and two quotes.
+pub(crate) fn put_first(page: &mut Page, field: &[u8])
+    requires room { length page.old.text + 2 * length field.now + 2 ≤ page.old.room }
+    ensures text { page.new ≡ record page.old { text = page.old.text ++ field_text default_writer field.now } }
+    ensures size { length page.new.text ≤ length page.old.text + 2 * length field.now + 2 }
+{
+    put_field(page, field);
+}
+
 /// Appends a comma and another field of a row.
 pub(crate) fn put_next(page: &mut Page, field: &[u8])
-    requires room { length page.old.text + 2 * length field.now + 3 ≤ page.old.room }
+    requires room { length page.old.text + 1 + length (field_text default_writer field.now) ≤ page.old.room }
     ensures text { page.new
         ≡ record page.old { text = page.old.text ++ (comma ∷ field_text default_writer field.now) } }
-    ensures size { length page.new.text ≤ length page.old.text + 2 * length field.now + 3 }
+    ensures size { length page.new.text ≡ length page.old.text + 1 + length (field_text default_writer field.now) }
 {
     page.put(b",");
     put_field(page, field);

@@ -1,5 +1,5 @@
 //! The memory that a text for a volume takes. It can be taken before the volume is read.
-ghost use Rattle.std.specs.Prelude.{◌≡◌, ◌≤◌, ◌+◌, ◌*◌, ◌++◌, length, option_map, IfOk, IfSome};
+ghost use Rattle.std.specs.Prelude.{◌≡◌, ◌≤◌, ◌+◌, ◌*◌, ◌^◌, ◌++◌, length, option_map, IfOk, MatchOption};
 ghost use Rattle.csv.specs.Reading.{default_config, records};
 ghost use Rattle.tape_text.specs.Free.{free_text};
 ghost use Rattle.tape_text.specs.Listing.{heading_of, listing_of};
@@ -26,14 +26,14 @@ const LEAST: usize = 820;
 /// The room for each record of the medium, in bytes: eight lines.
 const RECORD: usize = 1920;
 
-/// The room of a row of CSV, in bytes, without the name of the image: its other fields with their quotes doubled, the
-/// quotes around each field, nine commas and a line feed.
-const ROW: usize = 278;
+/// The room of a row of CSV, in bytes, without the bytes of the name of the image: its quotes, the other fields, nine
+/// commas and a line feed.
+const ROW: usize = 140;
 
 /// Returns the room of the rows of an image of this name on a medium of `size` records. Returns `None` if that is not a
 /// `usize`.
 fn rows_room(image: &[u8], size: u16) -> Option<usize>
-    ensures { IfSome result (λ room. room ≡ rows_room image.now size) }
+    ensures { MatchOption result (2 ^ 64 ≤ rows_room image.now size) (λ room. room ≡ rows_room image.now size) }
 {
     let row = image.len().checked_mul(2)?.checked_add(ROW)?;
     row.checked_mul((8 * usize::from(size)).max(1))

@@ -7,7 +7,7 @@ ghost use Rattle.tape_text.specs.Rows.{column_names, names_in, numbers_in, file_
 ghost use Rattle.tape_text.specs.Rows.{rows_text};
 
 use crate::cells::{self, WIDEST};
-use crate::fields::{put_field, put_next};
+use crate::fields::{put_first, put_next};
 use crate::shown::{files_of, shown};
 use il_script::Page;
 use lif_dir::{FileEntry, Slot, SlotTable};
@@ -16,14 +16,14 @@ use lif_header::Header;
 /// Appends the first five fields of the row of a file.
 fn put_names(page: &mut Page, cell: &mut Page, image: &[u8], header: &Header, entry: &FileEntry)
     requires cell { cell.old.room ≡ WIDEST }
-    requires room { length page.old.text + 2 * length image.now + 134 ≤ page.old.room }
+    requires room { length page.old.text + 2 * length image.now + 70 ≤ page.old.room }
     ensures text { page.new ≡ record page.old {
       text = page.old.text ++ row_body default_writer (names_in image.now header.now entry.now);
     } }
-    ensures size { length page.new.text ≤ length page.old.text + 2 * length image.now + 134 }
+    ensures size { length page.new.text ≤ length page.old.text + 2 * length image.now + 70 }
     ensures cell { cell.new.room ≡ WIDEST }
 {
-    put_field(page, image);
+    put_first(page, image);
     cells::label(cell, header);
     put_next(page, cell.text());
     cells::name(cell, entry);
@@ -37,10 +37,10 @@ fn put_names(page: &mut Page, cell: &mut Page, image: &[u8], header: &Header, en
 /// Appends the other five fields of the row of a file.
 fn put_numbers(page: &mut Page, cell: &mut Page, entry: &FileEntry)
     requires cell { cell.old.room ≡ WIDEST }
-    requires room { length page.old.text + 143 ≤ page.old.room }
+    requires room { length page.old.text + 69 ≤ page.old.room }
     ensures text { page.new
         ≡ record page.old { text = page.old.text ++ fields_text default_writer (numbers_in entry.now) } }
-    ensures size { length page.new.text ≤ length page.old.text + 143 }
+    ensures size { length page.new.text ≤ length page.old.text + 69 }
     ensures cell { cell.new.room ≡ WIDEST }
 {
     cells::start(cell, entry);
@@ -120,7 +120,7 @@ fn put_lone(page: &mut Page, cell: &mut Page, image: &[u8], header: &Header)
     requires room { length page.old.text + row_room image.now ≤ page.old.room }
     ensures { page.new ≡ record page.old { text = page.old.text ++ row_line (empty_row image.now header.now) } }
 {
-    put_field(page, image);
+    put_first(page, image);
     cells::label(cell, header);
     put_next(page, cell.text());
     page.put(b",,,,,,,,\n");

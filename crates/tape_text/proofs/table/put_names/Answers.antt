@@ -9,14 +9,14 @@ use Rattle.tape_text.proofs.table.put_names.Goals as goal
 
 pub returns-clause-text : goal.returns-clause-text
 returns-clause-text c =
-    let first = c.put_field.new.page in
+    let first = c.put_first.new.page in
     let image = field_text default_writer c.args.image.now in
     let label = printed c.args.header.now.label in
     let name = name_cell c.args.entry.now in
     let code = type_cell c.args.entry.now in
     let kind = type_name_cell c.args.entry.now in
     let names = fields_text default_writer (label ∷ name ∷ code ∷ kind ∷ []) in
-    append_next c.args.page.now first c.put_next-4.new.page image names names c.put_field.ensures.text
+    append_next c.args.page.now first c.put_next-4.new.page image names names c.put_first.ensures.text
     (field_next first c.put_next-3.new.page c.put_next-4.new.page (label ∷ name ∷ code ∷ []) c.text-4.result.now kind
     (field_next first c.put_next-2.new.page c.put_next-3.new.page (label ∷ name ∷ []) c.text-3.result.now code
     (field_next first c.put_next.new.page c.put_next-2.new.page (label ∷ []) c.text-2.result.now name
