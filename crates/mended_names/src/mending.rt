@@ -5,7 +5,8 @@ ghost use Rattle.arrayvec.specs.ArrayVec.{array_vec_len};
 ghost use Rattle.lif_dir.specs.Entries.{name_bytes};
 ghost use Rattle.lif_dir.specs.Names.{new_name};
 ghost use Rattle.mended_names.specs.Mending.{mended_byte, missing_letter, base_of, numbered, is_named, is_free};
-ghost use Rattle.mended_names.specs.Mending.{first_numbered, first_free, new_name_of, mended, mended_name, mended_from, names_for};
+ghost use Rattle.mended_names.specs.Mending.{first_numbered, first_free, new_name_of, mended};
+ghost use Rattle.mended_names.specs.Mending.{mended_name, mended_from, names_for};
 
 use arrayvec::ArrayVec;
 use itoa::Buffer;
