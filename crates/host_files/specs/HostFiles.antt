@@ -1,4 +1,5 @@
--- A file of the host that is read whole: which calls are made, and what they answer.
+-- A file of the host that is read whole: which calls are made, and what they answer. Where two states of a file or of
+-- the images are named, the calls led from the first to the second.
 use Rattle.std.specs.Prelude.{◌≡◌, ◌<◌, ◌≤◌, ◌++◌, ℕ, true, false, List, [], length, take, Option, Some, Result, Ok, Err, Vec}
 use Rattle.std.specs.IoError.{error_kind}
 use Rattle.std.specs.declared.alloc.Global.{Global}
@@ -13,38 +14,38 @@ use Rattle.host_files.specs.declared.reading.NotRead.TheVariants as not_read
 
 -- ---- an open file
 
--- Reads of a file from its start on, each from where the one before ended. These bytes are what they gave.
+-- Reads of a file from its start on, each from where the one before ended. They gave these bytes.
 pub data Reads {F : Type 0} (view : F → FileView) (f : F) : F → List ℕ → Type 0 where
   NoRead : Reads view f f []
   OneMore : (g h : F) (bytes buffer : List ℕ) (count : ℕ) → Reads view f g bytes → Gave {E = Error} (length bytes) buffer (view g) (view h) (Ok count)
       → Reads view f h (bytes ++ take count buffer)
 
--- Its lock was granted, to read it, and it has so many bytes.
+-- Its lock was granted, to read it, and then it had this many bytes.
 pub record IsMeasured {F : Type 0} (view : F → FileView) (f g : F) (count : ℕ) : Type 0 where
   pub claimed : F
   pub granted : Claimed Read (view f) (view claimed) true
   pub measured : Measured {E = Error} (view claimed) (view g) (Ok count)
 
--- Then the disk has what it reads as.
+-- After that it was settled: the disk has the bytes that reads give.
 pub record IsSettled {F : Type 0} (view : F → FileView) (f g : F) (count : ℕ) : Type 0 where
   pub measured : F
   pub size : IsMeasured view f measured count
   pub settled : Settled {T = Unit {0}} {E = Error} (view measured) (view g) (Ok tt)
 
--- it was read whole: it has so many bytes, and reads gave as many
+-- It was read whole: it had as many bytes as its reads gave.
 pub record IsWhole {F : Type 0} (view : F → FileView) (f g : F) (bytes : List ℕ) : Type 0 where
   pub settled : F
   pub size : IsSettled view f settled (length bytes)
   pub reads : Reads view settled g bytes
 
--- a read failed, or it gave no byte before as many were read
+-- A read failed, or a read gave no byte before this many were read.
 pub data ReadFails {F : Type 0} (view : F → FileView) (f g : F) (count : ℕ) : Type 0 where
   NotGiven : (h : F) (bytes buffer : List ℕ) (error : Error) → Reads view f h bytes → Gave (length bytes) buffer (view h) (view g) (Err error)
       → ReadFails view f g count
   Ended : (h : F) (bytes buffer : List ℕ) → Reads view f h bytes → length bytes < count → 0 < length buffer
       → Gave {E = Error} (length bytes) buffer (view h) (view g) (Ok 0) → ReadFails view f g count
 
--- The lock was not granted, or it was and the length could not be found out.
+-- Its lock was not granted, or it was and then its length could not be found out.
 pub data MeasureFails {F : Type 0} (view : F → FileView) (f g : F) : Type 0 where
   NotGranted : Claimed Read (view f) (view g) false → MeasureFails view f g
   NotMeasured : (h : F) (error : Error) → Claimed Read (view f) (view h) true → Measured (view h) (view g) (Err error) → MeasureFails view f g
@@ -55,6 +56,7 @@ pub data IsUnread {F : Type 0} (view : F → FileView) (f g : F) : Type 0 where
   Unsettled : (h : F) (count : ℕ) (error : Error) → IsMeasured view f h count → Settled {T = Unit {0}} (view h) (view g) (Err error) → IsUnread view f g
   Broke : (h : F) (count : ℕ) → IsSettled view f h count → ReadFails view h g count → IsUnread view f g
 
+-- what the parts of a read answer
 abbrev pub Measures : {F E : Type 0} → (F → FileView) → (f g : F) → Result ℕ E → Type 0
 Measures view f g (Ok count) = IsMeasured view f g count
 Measures view f g (Err _) = MeasureFails view f g
@@ -63,7 +65,7 @@ abbrev pub ReadsAll : {F E : Type 0} → (F → FileView) → (count : ℕ) → 
 ReadsAll view count f g (Ok bytes) = Reads view f g bytes.items × (length bytes.items ≡ count)
 ReadsAll view count f g (Err _) = ReadFails view f g count
 
--- What was read of an open file. It is refused after its length is known, and nothing is read of it then.
+-- What was read of an open file. If it is too large, or there is no memory for its bytes, nothing was read.
 abbrev pub FileRead : {F : Type 0} → (F → FileView) → (most : ℕ) → (f g : F) → Result (Vec ℕ Global) NotRead → Type 0
 FileRead view most f g (Ok bytes) = IsWhole view f g bytes.items × (length bytes.items ≤ most)
 FileRead view most f g (Err not_read.TooLarge) = (count : ℕ) × IsMeasured view f g count × (most < count)
@@ -73,7 +75,7 @@ FileRead view most f g (Err _) = ⊥
 
 -- ---- a file by its name
 
--- after a look that found a file it was opened, only to be read, and this was read of it
+-- After a look that found a file it was opened, only to be read. This was read of it.
 pub record IsReadAs {F I : Type 0} (view : F → FileView) (seen : I → ImagesView) (name : List ℕ) (most : ℕ) (looked new : I) (answer : Result (Vec ℕ Global) NotRead) : Type 0 where
   pub file : F
   pub opened : Opened {E = Error} view error_kind name Read (seen looked) (seen new) (Ok file)
@@ -85,7 +87,7 @@ abbrev pub FoundRead : {F I : Type 0} → (F → FileView) → (I → ImagesView
 FoundRead view seen name most looked new (Err not_read.NotOpened) = (error : Error) × Opened view error_kind name Read (seen looked) (seen new) (Err error)
 FoundRead view seen name most looked new answer = IsReadAs view seen name most looked new answer
 
--- the same after the only look
+-- the same, with that look, which is the only one
 pub record IsFound {F I : Type 0} (view : F → FileView) (seen : I → ImagesView) (name : List ℕ) (most : ℕ) (old new : I) (answer : Result (Vec ℕ Global) NotRead) : Type 0 where
   pub looked : I
   pub there : Looked {E = Error} name (seen old) (seen looked) (Ok look.File)
@@ -104,6 +106,6 @@ HostFileRead view seen name most old new answer = IsFound view seen name most ol
 abbrev pub IsContent : (name : List ℕ) → Option Shelf → (bytes : List ℕ) → Type 0
 IsContent name shelf bytes = (s : Shelf) → shelf ≡ Some s → image_of name s ≡ Some bytes
 
--- the file of that name has more bytes, if contracts see it
+-- the file of that name has more than `most` bytes, if contracts see it
 abbrev pub IsLarger : (name : List ℕ) → (most : ℕ) → Option Shelf → Type 0
 IsLarger name most shelf = (s : Shelf) → shelf ≡ Some s → (bytes : List ℕ) × (image_of name s ≡ Some bytes) × (most < length bytes)
