@@ -44,7 +44,7 @@ unasked = record (zeros 0) { refused = ⊥ }
 none_rose : Rose 0 0 → ⊥
 none_rose rose = absurd (omega (arith, rose.risen))
 
--- a count that stands at its last value counts as risen
+-- a count that stays at its largest value has risen
 stands : Rose (2 ^ 64 - 1) (2 ^ 64 - 1)
 stands = record { later = omega arith; risen = omega arith }
 

@@ -2,8 +2,6 @@ mod Mounts
 mod Inserts
 mod Lends
 mod Chains
-mod Spelt
 mod Wholes
 mod Performed
-mod Purged
 mod Compared

@@ -5,30 +5,20 @@ use Rattle.lif_dir.specs.declared.names.NewName.{NewName}
 use Rattle.il_script.specs.declared.reply.Reply.{Reply}
 use Rattle.tape_drives.specs.Lending.{IsUnused}
 use Rattle.tape_changes.specs.ChangeMessages.{change_messages}
-use Rattle.tape_changes.specs.Changing.{ChangesDid, FrontIsLeft, Output, commands_of, output_of}
+use Rattle.tape_changes.specs.Changing.{ChangesDid, FrontIsLeft, Output, SaidStep, attempts_of, output_of, said}
+use Rattle.tape_changes.specs.Steps.{adopt_step, purges, rename_step, upgrade_step}
 use Rattle.tape_changes.specs.declared.changing.Step.{Step}
-use Rattle.tape_volumes.specs.Endings.{ending_status, told_line}
+use Rattle.tape_volumes.specs.Endings.{ending_status}
 use Rattle.tape_volumes.specs.Messages.{WritesMessage, no_name_line}
 use Rattle.tape_volumes.specs.Outputs.{PrintsNothing, TellsNothing, WritesError, Written}
-use Rattle.tape_volumes.specs.declared.change.Change.{Change}
-use Rattle.tape_volumes.specs.declared.change.Change.TheVariants as change
 use Rattle.tape_volumes.specs.declared.ending.Ending.{Ending}
 use Rattle.tape.specs.Images.{DriveSight, EndsInDrive, LacksMemoryFor}
-use Rattle.tape.specs.Names.{name_spelt, names_spelt, new_name_spelt, unspelt}
-
--- a change; the subject of its message; and what is printed once the change was made
-pub record SaidStep : Type 0 where
-  pub change : Change
-  pub subject : List ℕ
-  pub line : List ℕ
-
-abbrev pub said : Step → SaidStep
-said step = record { change = step.change; subject = step.subject.now; line = step.line.now }
+use Rattle.tape_arguments.specs.Names.{name_spelt, names_spelt, new_name_spelt, no_new_name_line, unspelt}
 
 -- how the job ends on the image of that name
 abbrev pub ChangesEnd : {M : Type 0} → DriveSight M → Ending → (image : List ℕ) (steps : List Step) (replies : List Reply) (old now : Output) → Type 0
 ChangesEnd drives e image steps replies old now =
-    EndsInDrive drives (λ w s t. ChangesDid false steps w replies s t old now) (FrontIsLeft (commands_of steps)) ((replies ≡ []) × (now ≡ old)) e image
+    EndsInDrive drives (λ w s t. ChangesDid false steps w replies s t old now) (FrontIsLeft (attempts_of steps)) ((replies ≡ []) × (now ≡ old)) e image
 
 -- These steps were taken on the image of that name, one after the other, unless the image was not opened; the job ended
 -- so, and its messages were written.
@@ -50,11 +40,6 @@ RefusesArgument line status old now = (status ≡ 2) × PrintsNothing old now ×
 
 -- ---- purge
 
--- one purge for each name, which the text spells
-abbrev pub purges : List Name → List (List ℕ) → List SaidStep
-purges (name ∷ names) (text ∷ texts) = record { change = change.Purge name; subject = text; line = [] } ∷ purges names texts
-purges _ _ = []
-
 abbrev pub PurgesBy : {M : Type 0} → DriveSight M → (image : List ℕ) → Option (List Name) → (unspelt : Option (List ℕ)) → (texts : List (List ℕ)) → (status : ℕ) → (old now : Written) → Type 0
 PurgesBy drives image (Some names) unspelt texts status old now = ChangesBy drives image (purges names texts) status old now
 PurgesBy drives image None (Some text) texts status old now = RefusesArgument (no_name_line text) status old now
@@ -69,14 +54,11 @@ PurgesFiles drives image (text ∷ texts) status old now =
 
 -- ---- rename
 
-abbrev pub no_new_name_line : List ℕ → List ℕ
-no_new_name_line text = told_line text (codes "a file can be given a name of a capital letter, and then capital letters, digits and _, ten at most") []
-
 abbrev pub RenamesBy : {M : Type 0} → DriveSight M → (image : List ℕ) → Option Name → Option NewName → (from to : List ℕ) → (status : ℕ) → (old now : Written) → Type 0
 RenamesBy drives image None name_now from to status old now = RefusesArgument (no_name_line from) status old now
 RenamesBy drives image (Some name) None from to status old now = RefusesArgument (no_new_name_line to) status old now
 RenamesBy drives image (Some name) (Some name_now) from to status old now =
-    ChangesBy drives image (record { change = change.Rename name name_now; subject = from; line = [] } ∷ []) status old now
+    ChangesBy drives image (rename_step name name_now from ∷ []) status old now
 
 -- The file whose name one text spells was given the name that another text spells.
 abbrev pub RenamesFile : {M : Type 0} → DriveSight M → (image from to : List ℕ) → (status : ℕ) → (old now : Written) → Type 0
@@ -84,12 +66,8 @@ RenamesFile drives image from to status old now = RenamesBy drives image (name_s
 
 -- ---- the redo file
 
--- a step that concerns the redo file
-abbrev pub redo_step : Change → List ℕ → SaidStep
-redo_step c line = record { change = c; subject = codes "redo file"; line = line }
-
 abbrev pub AdoptsVolume : {M : Type 0} → DriveSight M → (image : List ℕ) → (status : ℕ) → (old now : Written) → Type 0
-AdoptsVolume drives image status old now = ChangesBy drives image (redo_step change.Adopt (codes "the volume has its redo file\n") ∷ []) status old now
+AdoptsVolume drives image status old now = ChangesBy drives image (adopt_step ∷ []) status old now
 
 abbrev pub UpgradesVolume : {M : Type 0} → DriveSight M → (image : List ℕ) → (status : ℕ) → (old now : Written) → Type 0
-UpgradesVolume drives image status old now = ChangesBy drives image (redo_step change.Upgrade (codes "34 records are the redo file's\n") ∷ []) status old now
+UpgradesVolume drives image status old now = ChangesBy drives image (upgrade_step ∷ []) status old now

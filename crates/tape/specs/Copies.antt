@@ -13,7 +13,7 @@ use Rattle.tape_volumes.specs.declared.ending.Ending.{Ending}
 use Rattle.tape_volumes.specs.Endings.{ending_status}
 use Rattle.tape_volumes.specs.Messages.{WritesMessage, memory_line, no_name_line}
 use Rattle.tape.specs.Images.{DriveSight, EndsInDrive}
-use Rattle.tape.specs.Names.{names_spelt, unspelt}
+use Rattle.tape_arguments.specs.Names.{names_spelt, unspelt}
 
 -- What contracts see of the folders of a job: the view of each, and what was lent before the job and after it.
 pub record FolderSight (F : Type 0) : Type 1 where

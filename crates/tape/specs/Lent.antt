@@ -1,7 +1,7 @@
 -- The drives and the folders that a job uses.
 use Rattle.std.specs.Prelude.{ℕ, length, Option, Some, None, option_and_then, option_map}
-use Rattle.tape.specs.New.{label_spelt, slots_spelt}
-use Rattle.tape.specs.Names.{name_spelt, names_spelt, new_name_spelt}
+use Rattle.tape_arguments.specs.Volumes.{label_spelt, slots_spelt}
+use Rattle.tape_arguments.specs.Names.{name_spelt, names_spelt, new_name_spelt}
 use Rattle.tape_words.specs.Asked.{Wanted, Dir, Out, Get, Raw, Free, Map, Why, Diff, Purge, Rename, Adopt, Upgrade, New, Put, Set}
 
 -- one, if the names are spelt that a job needs before it opens an image

@@ -1,7 +1,6 @@
 pub mod Mounts
 pub mod Images
 pub mod Several
-pub mod Names
 pub mod Files
 pub mod Copies
 pub mod Shown

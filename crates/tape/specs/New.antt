@@ -3,17 +3,13 @@ use Rattle.std.specs.Prelude.{◌≡◌, ◌⊎◌, ◌∷◌, ℕ, Bool, true, 
 use Rattle.il_ports.specs.Media.{MediumView}
 use Rattle.il_ports.specs.declared.image.Size.{Size}
 use Rattle.il_ports.specs.declared.image.Size.TheVariants as size
-use Rattle.il_script.specs.Digits.{number_up_to}
-use Rattle.il_script.specs.declared.limits.TheConstants.{MOST_SLOTS}
 use Rattle.il_script.specs.declared.reply.Reply.{Reply}
-use Rattle.lif_dir.specs.Entries.{name_bytes}
-use Rattle.lif_dir.specs.Names.{new_label}
 use Rattle.lif_dir.specs.declared.names.NewLabel.{NewLabel}
-use Rattle.lif_model.specs.Printed.{trimmed}
 use Rattle.made_images.specs.declared.making.NotMade.{NotMade}
 use Rattle.made_images.specs.declared.making.NotMade.TheVariants as not_made
 use Rattle.tape_changes.specs.ChangeMessages.{change_messages}
-use Rattle.tape_changes.specs.Changing.{ChangesDid, FrontIsLeft, commands_of, output_of}
+use Rattle.tape_changes.specs.Changing.{ChangesDid, FrontIsLeft, SaidStep, attempts_of, output_of, said}
+use Rattle.tape_changes.specs.Steps.{format_step, upgrade_step}
 use Rattle.tape_changes.specs.declared.changing.Step.{Step}
 use Rattle.tape_drives.specs.Lending.{IsUnused}
 use Rattle.tape_drives.specs.Making.{IsInDrive, Making}
@@ -21,12 +17,11 @@ use Rattle.tape_volumes.specs.Endings.{ending_status, is_done, told_line}
 use Rattle.tape_volumes.specs.Messages.{WritesMessage}
 use Rattle.tape_volumes.specs.Outputs.{LacksMemory, PrintsNothing, WritesError, WritesNothing, Written}
 use Rattle.tape_volumes.specs.Volumes.{DoneOrNot}
-use Rattle.tape_volumes.specs.declared.change.Change.TheVariants as change
 use Rattle.tape_volumes.specs.declared.ending.Ending.TheVariants as ending
 use Rattle.tape_volumes.specs.declared.went.Went.{Went}
-use Rattle.tape.specs.Changes.{RefusesArgument, SaidStep, redo_step, said}
+use Rattle.tape_arguments.specs.Volumes.{label_spelt, no_label_line, no_slots_line, slots_spelt}
+use Rattle.tape.specs.Changes.{RefusesArgument}
 use Rattle.tape.specs.Images.{WorksOnTape}
-use Rattle.tape.specs.Names.{name_spelt}
 
 -- What contracts see of the new images of a job: the view of each drive, and what was made before the job and after it.
 pub record MakerSight (M : Type 0) : Type 1 where
@@ -41,34 +36,16 @@ maker_sight view before now = record { view = view; before = before; now = now }
 abbrev pub UsesNoMaker : {M : Type 0} → MakerSight M → Type 0
 UsesNoMaker makers = IsUnused makers.before.lending makers.now.lending
 
--- ---- the arguments
-
--- the label that a text spells, if a volume can be given it; spaces at its end are no part of it
-abbrev pub label_spelt : List ℕ → Option NewLabel
-label_spelt text = option_and_then (λ name. new_label (trimmed (name_bytes name))) (name_spelt text)
-
--- the number of slots that a text spells
-abbrev pub slots_spelt : List ℕ → Option ℕ
-slots_spelt text = number_up_to MOST_SLOTS text
-
 abbrev pub medium_size : (disc : Bool) → Size
 medium_size true = size.Disc
 medium_size false = size.Tape
 
 -- ---- the steps
 
--- what is printed once the volume is there, if its redo file stays as `format` makes it
-abbrev pub small_line : (small : Bool) → List ℕ
-small_line true = codes "4 records are the redo file's\n"
-small_line false = []
-
-abbrev pub format_step : NewLabel → ℕ → (small : Bool) → SaidStep
-format_step label slots small = record { change = change.Format label slots; subject = codes "volume"; line = small_line small }
-
 -- a volume is made by this step, and then its redo file becomes one of version 2 unless it is to be small
 abbrev pub with_upgrade : (small : Bool) → SaidStep → List SaidStep
 with_upgrade true format = format ∷ []
-with_upgrade false format = format ∷ redo_step change.Upgrade (codes "34 records are the redo file's\n") ∷ []
+with_upgrade false format = format ∷ upgrade_step ∷ []
 
 -- ---- an image that was made
 
@@ -97,7 +74,7 @@ pub record ImageIsMade {M : Type 0} (makers : MakerSight M) (image : List ℕ) (
   pub went : Went
   pub replies : List Reply
   pub works : WorksOnTape (DoneOrNot (λ w s t. ChangesDid true steps w replies s t (output_of old.out old.out_faults) (output_of now.out now.out_faults)) ((replies ≡ []) × (output_of now.out now.out_faults ≡ output_of old.out old.out_faults)) went)
-      (FrontIsLeft (commands_of steps)) (makers.view drive) (makers.view drive_now)
+      (FrontIsLeft (attempts_of steps)) (makers.view drive) (makers.view drive_now)
   pub status_is : status ≡ ending_status (ending.Went went)
   -- what was written to standard error until the drive came back, and the count of its faults
   pub error : Option (List ℕ)
@@ -139,12 +116,6 @@ MakesBy makers image size steps status old now =
     ⊎ ((taken : List Step) × (map said taken ≡ steps) × MakesOrNot makers image size taken status old now)
 
 -- ---- the job
-
-abbrev pub no_label_line : List ℕ → List ℕ
-no_label_line text = told_line text (codes "a volume has a label of a capital letter, and then capital letters, digits and _, six at most") []
-
-abbrev pub no_slots_line : List ℕ → List ℕ
-no_slots_line text = told_line text (codes "a directory has 1 to 19664 slots") []
 
 abbrev pub MakesFor : {M : Type 0} → MakerSight M → (disc small : Bool) → (image : List ℕ) → Option NewLabel → Option ℕ → (label slots : List ℕ) → (status : ℕ) → (old now : Written) → Type 0
 MakesFor makers disc small image None count label slots status old now = RefusesArgument (no_label_line label) status old now

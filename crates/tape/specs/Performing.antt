@@ -10,7 +10,7 @@ use Rattle.tape.specs.Comparing.{ImagesAreCompared}
 use Rattle.tape.specs.Changes.{AdoptsVolume, PurgesFiles, RenamesFile, UpgradesVolume}
 use Rattle.tape.specs.Copies.{CopiesFiles, FolderSight}
 use Rattle.tape.specs.Files.{ReadsNamedFile}
-use Rattle.tape.specs.Names.{name_spelt}
+use Rattle.tape_arguments.specs.Names.{name_spelt}
 use Rattle.tape.specs.New.{UsesNoMaker, MakerSight, MakesImage}
 use Rattle.tape.specs.Texts.{Input, StoresText}
 use Rattle.tape_volumes.specs.Outputs.{LacksMemory, PrintsNothing, PrintsWith, WritesError, Written}

@@ -4,7 +4,8 @@ use Rattle.lif_dir.specs.declared.names.NewName.{NewName}
 use Rattle.lif_text.specs.Buffer.{BufferView}
 use Rattle.tape_changes.specs.Changing.{output_of}
 use Rattle.tape_changes.specs.ReplaceMessages.{replaced_message}
-use Rattle.tape_changes.specs.Replacing.{IsTextFile, OldOrNewIsLeft, ReplaceDid, store_change}
+use Rattle.tape_changes.specs.Replacing.{IsTextFile, OldOrNewIsLeft, ReplaceDid}
+use Rattle.tape_changes.specs.Steps.{store_step}
 use Rattle.tape_changes.specs.declared.replacing.NewFile.{NewFile}
 use Rattle.tape_changes.specs.declared.replacing.Stored.{Stored}
 use Rattle.tape_changes.specs.declared.replacing.Stored.TheVariants as became
@@ -16,9 +17,9 @@ use Rattle.tape_volumes.specs.Endings.{ending_status}
 use Rattle.tape_volumes.specs.Messages.{WritesMessage}
 use Rattle.tape_volumes.specs.Outputs.{PrintsNothing, WritesError, Written}
 use Rattle.tape_volumes.specs.declared.ending.Ending.{Ending}
-use Rattle.tape.specs.Changes.{ChangesBy, RefusesArgument, no_new_name_line}
+use Rattle.tape_arguments.specs.Names.{new_name_spelt, no_new_name_line}
+use Rattle.tape.specs.Changes.{ChangesBy, RefusesArgument}
 use Rattle.tape.specs.Images.{DriveSight, EndsInDrive, LacksMemoryFor}
-use Rattle.tape.specs.Names.{new_name_spelt}
 
 -- standard input: the bytes that are still to come, if contracts can see them, and the count of its faults
 pub record Input : Type 0 where
@@ -33,7 +34,7 @@ input_of left faults = record { left = left; faults = faults }
 -- the file was stored, if there was none of its name
 abbrev pub FileIsPut : {M : Type 0} → DriveSight M → (quiet : Bool) → (image text : List ℕ) → NewFile → (status : ℕ) → (old now : Written) → Type 0
 FileIsPut drives quiet image text file status old now =
-    ChangesBy drives image (record { change = store_change file; subject = text; line = stored_line quiet text } ∷ []) status old now
+    ChangesBy drives image (store_step file text (stored_line quiet text) ∷ []) status old now
 
 -- ---- set
 

@@ -2,16 +2,16 @@ ghost use Rattle.std.specs.Prelude.{◌≡◌, true, [], IfOk, None, map};
 ghost use Rattle.tape.specs.Images.{sight};
 ghost use Rattle.tape_drives.specs.Lending.{Uses};
 ghost use Rattle.tape.specs.Lent.{one_if};
-ghost use Rattle.tape.specs.Names.{names_spelt};
+ghost use Rattle.tape_arguments.specs.Names.{names_spelt};
 ghost use Rattle.tape.specs.Copies.{CopiesFiles, FilesAreCopied, folder_sight};
 ghost use Rattle.tape_folder.specs.Paths.{IsFolderPath};
 
 use crate::images::work_on_image;
-use crate::names::{NoNames, names_spelt};
 use il_ports::{Medium, Sink};
 use il_script::Page;
 use lif_dir::Name;
 use std::alloc::{AllocError, Global};
+use tape_arguments::{NoNames, names_spelt};
 use tape_drives::{Drives, Folders};
 use tape_folder::Folder;
 use tape_jobs::{Copying, Progress, write_copied};

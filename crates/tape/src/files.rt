@@ -3,16 +3,16 @@ ghost use Rattle.tape.specs.Images.{sight};
 ghost use Rattle.tape_drives.specs.Lending.{Uses};
 ghost use Rattle.tape.specs.Lent.{one_if};
 ghost use Rattle.tape.specs.Files.{FileIsRead, ReadsNamedFile};
-ghost use Rattle.tape.specs.Names.{name_spelt};
+ghost use Rattle.tape_arguments.specs.Names.{name_spelt};
 ghost use Rattle.tape_jobs.specs.Reading.{HasRoomForFile};
 ghost use Rattle.tape_volumes.specs.Outputs.{written};
 
 use crate::images::work_on_image;
-use crate::names::name_spelt;
 use il_ports::{Medium, Sink};
 use il_script::Page;
 use lif_dir::Name;
 use std::alloc::Global;
+use tape_arguments::name_spelt;
 use tape_drives::Drives;
 use tape_jobs::{Part, Reading, page_for_file};
 use tape_volumes::{no_memory, refuse_name, write_file_ending};

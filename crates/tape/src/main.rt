@@ -8,7 +8,6 @@ mod files;
 mod hosted;
 mod images;
 mod mounted;
-mod names;
 mod new;
 mod performing;
 mod put;

@@ -1,68 +1,30 @@
 //! The job `new`.
 ghost use Rattle.std.specs.Prelude.{◌≡◌, ◌≤◌, ◌<◌, [], true, length, map};
-ghost use Rattle.std.specs.Option.{IfSome};
 ghost use Rattle.std.specs.Vec.{vec_capacity};
-ghost use Rattle.tape.specs.Changes.{said};
 ghost use Rattle.tape.specs.Lent.{both_arguments, one_if};
-ghost use Rattle.tape.specs.New.{MakesBy, MakesImage, MakesOrNot, StaysIf, format_step, label_spelt, maker_sight};
-ghost use Rattle.tape.specs.New.{not_made_cause, not_made_status, slots_spelt, with_upgrade};
-ghost use Rattle.tape_changes.specs.Changing.{AreFormed};
+ghost use Rattle.tape.specs.New.{MakesBy, MakesImage, MakesOrNot, StaysIf, maker_sight};
+ghost use Rattle.tape.specs.New.{not_made_cause, not_made_status, with_upgrade};
+ghost use Rattle.tape_arguments.specs.Volumes.{label_spelt, slots_spelt};
+ghost use Rattle.tape_changes.specs.Changing.{AreFormed, IsFormedStep, said};
 ghost use Rattle.tape_drives.specs.Lending.{ComesBack, Uses};
 ghost use Rattle.tape_drives.specs.Making.{MakesOn};
-ghost use Rattle.tape_volumes.specs.Changes.{IsFormedChange};
 ghost use Rattle.tape_volumes.specs.Endings.{told_line};
 ghost use Rattle.tape_volumes.specs.Messages.{WritesMessage};
 ghost use Rattle.tape_volumes.specs.Outputs.{written};
 
-use crate::changes::{UPGRADED, redo_step};
 use crate::images::{Returned, work_on_tape};
-use crate::names::name_spelt;
 use exits::OUT_OF_MEMORY;
 use il_ports::{Medium, Sink, Size};
-use il_script::{MOST_SLOTS, Reply, read_number};
-use lif_dir::{NewLabel, without_end_spaces};
+use il_script::Reply;
 use made_images::NotMade;
 use std::alloc::Global;
-use tape_changes::{Changing, Step, write_changed};
+use tape_arguments::{label_spelt, refuse_label, refuse_slots, slots_spelt};
+use tape_changes::{Changing, Step, format_step, upgrade_step, write_changed};
 use tape_drives::Makers;
-use tape_volumes::{Change, Ending, no_memory, refuse_text, write_cause};
-
-/// What is printed once the volume is there, if its redo file stays as it was made.
-const SMALL: &[u8] = b"4 records are the redo file's\n";
+use tape_volumes::{Ending, no_memory, write_cause};
 
 /// The exit status if no image was made.
 const NOT_DONE: u8 = 1;
-
-/// The label that a text spells, if a volume can be given it.
-fn label_spelt(text: &str) -> Option<NewLabel>
-    ensures { result ≡ label_spelt text.now }
-{
-    let name = name_spelt(text)?;
-    NewLabel::of(without_end_spaces(&name.bytes()))
-}
-
-/// The number of slots that a text spells.
-fn slots_spelt(text: &str) -> Option<u16>
-    ensures number { result ≡ slots_spelt text.now }
-    ensures some { IfSome result (λ count. 0 < count) }
-{
-    let count = read_number(text.as_bytes(), u64::from(MOST_SLOTS))?;
-    Some(count as u16)
-}
-
-/// The step that makes a volume. If the redo file stays small, its line tells how small.
-fn format_step(label: NewLabel, slots: u16, small: bool) -> Step<'static>
-    requires { 0 < slots }
-    ensures said { said result ≡ format_step label slots small }
-    ensures formed { IsFormedChange result.change }
-{
-    let line: &[u8] = if small { SMALL } else { b"" };
-    Step {
-        change: Change::Format { label, slots },
-        subject: b"volume",
-        line,
-    }
-}
 
 /// Why no image was made.
 fn not_made_cause(why: NotMade) -> &'static [u8]
@@ -193,7 +155,7 @@ fn make_volume<M: Medium + Drop, W: Makers<M>, K: Sink + Drop, E: Sink>(
     error: &mut E,
 ) -> (u8, K)
     requires back { (W.making makers.old).lending.all_back ≡ true }
-    requires formed { IsFormedChange format.change }
+    requires formed { IsFormedStep format }
     ensures made { MakesBy (maker_sight M.view (W.making makers.old) (W.making makers.new)) image.now size (with_upgrade small (said format.entry)) result.0
         (written (K.written out) (K.faults out) (E.written error.old) (E.faults error.old))
         (written (K.written result.1) (K.faults result.1) (E.written error.new) (E.faults error.new)) }
@@ -202,8 +164,8 @@ fn make_volume<M: Medium + Drop, W: Makers<M>, K: Sink + Drop, E: Sink>(
     if small {
         return make_by(alloc, makers, size, image, &[format], out, error);
     }
-    let upgrade = redo_step(Change::Upgrade, UPGRADED);
-    make_by(alloc, makers, size, image, &[format, upgrade], out, error)
+    let steps = [format, upgrade_step()];
+    make_by(alloc, makers, size, image, &steps, out, error)
 }
 
 /// Does the job `new`, and says the exit status.
@@ -225,13 +187,10 @@ pub fn new_image<M: Medium + Drop, W: Makers<M>, K: Sink + Drop, E: Sink>(
     ensures drives { Uses (one_if (both_arguments (label_spelt label_text.now) (slots_spelt slots_text.now))) (W.making makers.old).lending (W.making makers.new).lending }
 {
     let Some(label) = label_spelt(label_text) else {
-        let cause =
-            b"a volume has a label of a capital letter, and then capital letters, digits and _, six at most";
-        return (refuse_text(error, label_text, cause), out);
+        return (refuse_label(error, label_text), out);
     };
     let Some(slots) = slots_spelt(slots_text) else {
-        let cause = b"a directory has 1 to 19664 slots";
-        return (refuse_text(error, slots_text, cause), out);
+        return (refuse_slots(error, slots_text), out);
     };
     let size = if disc { Size::Disc } else { Size::Tape };
     let format = format_step(label, slots, small);

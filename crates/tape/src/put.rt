@@ -4,20 +4,21 @@ ghost use Rattle.il_script.specs.declared.limits.TheConstants.{LONGEST_PAYLOAD};
 ghost use Rattle.lif_dir.specs.Batches.{parts_of};
 ghost use Rattle.tape.specs.Images.{sight};
 ghost use Rattle.tape.specs.Lent.{one_if};
-ghost use Rattle.tape.specs.Names.{new_name_spelt};
+ghost use Rattle.tape_arguments.specs.Names.{new_name_spelt};
 ghost use Rattle.tape.specs.Texts.{FileIsPut, FileIsSet, StoresBytes, StoresText, input_of};
 ghost use Rattle.tape_input.specs.Messages.{stored_line};
-ghost use Rattle.tape_changes.specs.Replacing.{replacing_parts, store_change};
+ghost use Rattle.tape_changes.specs.Replacing.{replacing_parts, store_change, text_kind};
 ghost use Rattle.tape_drives.specs.Lending.{Uses};
 ghost use Rattle.tape_volumes.specs.Changes.{IsFormedChange};
 ghost use Rattle.tape_volumes.specs.Outputs.{written};
 
-use crate::changes::{change_image, new_name_spelt, refuse_new_name};
+use crate::changes::change_image;
 use crate::images::work_on_image;
 use il_ports::{Medium, Sink, Source};
 use lif_dir::{Batch, NewName};
 use std::alloc::Global;
-use tape_changes::{NewFile, Replacing, Step, Stored, replacing_batch, write_replaced};
+use tape_arguments::{new_name_spelt, refuse_new_name};
+use tape_changes::{NewFile, Replacing, Stored, replacing_batch, store_step, write_replaced};
 use tape_drives::Drives;
 use tape_input::{read_text, stored_line, tell_no_text};
 use tape_volumes::no_memory;
@@ -41,11 +42,7 @@ fn put_file<M: Medium + Drop, D: Drives<M>, K: Sink + Drop, E: Sink>(
         (written (K.written result.1) (K.faults result.1) (E.written error.new) (E.faults error.new)) }
     ensures drives { Uses 1 (D.lent drives.old) (D.lent drives.new) }
 {
-    let step = Step {
-        change: file.store(),
-        subject: text.as_bytes(),
-        line,
-    };
+    let step = store_step(file, text, line);
     change_image(alloc, drives, image, &[step], out, error)
 }
 
@@ -63,6 +60,7 @@ fn set_file<M: Medium + Drop, D: Drives<M>, K: Sink + Drop, E: Sink>(
 ) -> (u8, K)
     requires back { (D.lent drives.old).all_back ≡ true }
     requires formed { IsFormedChange (store_change file.now) }
+    requires text { file.now.kind ≡ text_kind }
     requires parts { parts_of batch.now ≡ replacing_parts file.now }
     ensures set { (quiet : Bool) → line.now ≡ stored_line quiet text.now
         → FileIsSet (sight M.view M.refuses (D.lent drives.old) (D.lent drives.new)) quiet image.now text.now file.now result.0

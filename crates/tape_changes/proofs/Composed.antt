@@ -12,7 +12,8 @@ use Rattle.tape_changes.specs.declared.replacing.NewFile.{NewFile}
 use Rattle.tape_changes.specs.declared.replacing.Stored.{Stored}
 use Rattle.tape_changes.specs.Changing.{Output}
 use Rattle.tape_changes.specs.Replacing.{AfterListing, IsKindAt, OldOrNewIsLeft, ReplaceDid, StoredBy, after_any, command_by, kind_named, new_name_bytes, replacing_parts, with_stored}
-use Rattle.tape_changes.proofs.Steps.{beside_next, beside_none, beside_on, seen_of, shown_of}
+use Rattle.tape_changes.proofs.Attempts.{seen_of, shown_of}
+use Rattle.tape_changes.proofs.Joined.{beside_next, beside_none, beside_on}
 
 -- the medium keeps its size
 size_by : (command : Option VolumeCommand) (found : Option ℕ) (line : List ℕ) (st : Stored) (w : Went) (u t : Mounted) (old now : Output) → StoredBy command found line st w u t old now → t.records ≡ u.records

@@ -1,6 +1,6 @@
 -- What the definitions of the job accept and refuse.
 use Rattle.std.proofs.Common.{◌≡◌, ◌∷◌, ◌∙◌, ℕ, zero, suc, Bool, true, false, List, [], Option, Some, None, codes, inl, refl, sym, ap, arith}
-use Rattle.std.specs.Prelude.{◌≢◌, ◌≤◌, is_some, length, take}
+use Rattle.std.specs.Prelude.{if◌then◌else◌, ◌≢◌, ◌≤◌, is_some, length, take}
 use Rattle.std.specs.List.{list_all}
 use Rattle.std.specs.Io.KnownBytes.{Appends}
 use Rattle.lif_model.specs.Apply.{IsWellFormed, VolumeCommand, apply}
@@ -27,7 +27,7 @@ use Rattle.tape_changes.specs.declared.changing.Next.TheVariants as next
 use Rattle.tape_changes.specs.declared.replacing.NewFile.{NewFile}
 use Rattle.tape_changes.specs.declared.replacing.Stored.{Stored}
 use Rattle.tape_changes.specs.declared.replacing.Stored.TheVariants as stored
-use Rattle.tape_changes.specs.Changing.{ChangesDid, FrontIsLeft, NextBy, Output, StepsTaken, after, was_made}
+use Rattle.tape_changes.specs.Changing.{Attempt, ChangesDid, FrontIsLeft, NextBy, Output, StepTried, StepsTaken, ThenDid, after, attempted, says_exists, was_made}
 use Rattle.tape_changes.specs.ChangeMessages.{change_message}
 use Rattle.tape_changes.specs.ReplaceMessages.{kind_digits, replaced_message}
 use Rattle.tape_changes.specs.Replacing.{AskedFor, IsKindAt, OldOrNewIsLeft, ReplaceDid, StoredBy, command_by, kind_named, new_name_bytes, replaced_went, replacing_parts, store_change}
@@ -35,7 +35,15 @@ use Rattle.tape_changes.proofs.Replaced.{left_has_some}
 
 -- a step that purges the file of that name
 abbrev purge_of : Name → Step → Step
-purge_of name step = record { change = change.Purge name; subject = step.subject; line = step.line }
+purge_of name step = record { change = change.Purge name; instead = None; subject = step.subject; line = step.line }
+
+-- a step that has no other change was tried
+tried_alone : (name : Name) (step : Step) (r : Reply) (s t : Mounted) → CommandDid (volume.Purge (name_bytes name)) r s t → StepTried (purge_of name step) r s t
+tried_alone name step r s t did = record { first = r; between = t; did = did; rest = none_then (says_exists r) }
+  where
+    none_then : (exists : Bool) → ThenDid (if exists then None else None) r r t t
+    none_then true = (refl, refl)
+    none_then false = (refl, refl)
 
 -- The first purge is refused, the job goes on, and the second is made. Only the line of the second is printed.
 refused_then_made : (first second : Name) (a b : Step) (code : Code) (s u t : Mounted) (old now : Output)
@@ -44,7 +52,7 @@ refused_then_made : (first second : Name) (a b : Step) (code : Code) (s u t : Mo
     → ChangesDid false (purge_of first a ∷ purge_of second b ∷ []) went.NotAll (reply.No code ∷ reply.Ok ∷ []) s t old now
 refused_then_made first second a b code s u t old now refused made line faults = record {
   lost = false;
-  taken = (next.GoesOn, u, old, record { did = refused; tells = (refl, (refl, refl)) }, (next.GoesOn, t, now, record { did = made; tells = (line, faults) }, (refl, refl, refl)));
+  taken = (next.GoesOn, u, old, record { tried = tried_alone first a (reply.No code) s u refused; tells = (refl, (refl, refl)) }, (next.GoesOn, t, now, record { tried = tried_alone second b reply.Ok u t made; tells = (line, faults) }, (refl, refl, refl)));
   went_so = refl;
 }
 
@@ -68,10 +76,10 @@ all_replied early (step ∷ steps) (reply.FaultFrame ∷ replies) s t old now ta
 all_replied early (step ∷ steps) (reply.FaultMedium ∷ replies) s t old now taken made = cc
 
 -- a power stop within two changes does not leave the second one alone, if that makes another volume
-not_second_alone : (a b : VolumeCommand) (s : Mounted) (x : Tape) → OwnsGate s.tape → finished_volume_of x ≡ (apply s.records b (volume_seen s.tape)).1
-    → (apply s.records b (volume_seen s.tape)).1 ≢ volume_seen s.tape
-    → (apply s.records b (volume_seen s.tape)).1 ≢ (apply s.records a (volume_seen s.tape)).1
-    → (apply s.records b (volume_seen s.tape)).1 ≢ (apply s.records b (apply s.records a (volume_seen s.tape)).1).1
+not_second_alone : (a b : Attempt) (s : Mounted) (x : Tape) → OwnsGate s.tape → finished_volume_of x ≡ attempted s.records b (volume_seen s.tape)
+    → attempted s.records b (volume_seen s.tape) ≢ volume_seen s.tape
+    → attempted s.records b (volume_seen s.tape) ≢ attempted s.records a (volume_seen s.tape)
+    → attempted s.records b (volume_seen s.tape) ≢ attempted s.records b (attempted s.records a (volume_seen s.tape))
     → FrontIsLeft (a ∷ b ∷ []) s x → ⊥
 not_second_alone a b s x own only none first both left = at (left own)
   where

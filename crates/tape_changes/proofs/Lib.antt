@@ -1,6 +1,9 @@
-mod Steps
+mod Attempts
+mod Joined
 mod Said
 mod ByName
 mod Composed
 mod Replaced
 mod Examples
+mod Purged
+mod Mapped

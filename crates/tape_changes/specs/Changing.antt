@@ -1,5 +1,5 @@
 -- What a job does that makes changes of one image, one after the other.
-use Rattle.std.specs.Prelude.{◌≡◌, ◌≤◌, ℕ, Bool, true, false, List, [], ◌∷◌, All, length, map, take, fold, Option, if◌then◌else◌}
+use Rattle.std.specs.Prelude.{◌≡◌, ◌≤◌, ℕ, Bool, true, false, List, [], ◌∷◌, ◌⊎◌, All, length, map, take, fold, Option, Some, None, option_map, IfSome, if◌then◌else◌}
 use Rattle.std.specs.List.{list_all}
 use Rattle.std.specs.Io.KnownBytes.{Appends}
 use Rattle.lif_model.specs.Apply.{VolumeCommand, apply}
@@ -7,12 +7,16 @@ use Rattle.lif_model.specs.Causes.{Rose}
 use Rattle.lif_model.specs.Packing.{finished_volume_of}
 use Rattle.lif_model.specs.Tape.{Tape}
 use Rattle.lif_model.specs.Volume.{Volume}
+use Rattle.lif_model.specs.declared.refusal.Refusal.{Refusal}
+use Rattle.lif_model.specs.declared.refusal.Refusal.TheVariants.{Exists}
 use Rattle.il_ports.specs.Writing.{WritesFront}
+use Rattle.il_script.specs.declared.reply.Code.TheVariants as code
 use Rattle.il_script.specs.declared.reply.Reply.{Reply}
 use Rattle.il_script.specs.declared.reply.Reply.TheVariants as reply
 use Rattle.tape_volumes.specs.Changes.{IsFormedChange, change_command}
 use Rattle.tape_volumes.specs.Outputs.{WritesNothing}
 use Rattle.tape_volumes.specs.Volumes.{CommandDid, Mounted, OwnsGate, volume_seen}
+use Rattle.tape_volumes.specs.declared.change.Change.{Change}
 use Rattle.tape_volumes.specs.declared.went.Went.{Went}
 use Rattle.tape_volumes.specs.declared.went.Went.TheVariants as went
 use Rattle.tape_changes.specs.declared.changing.Step.{Step}
@@ -41,9 +45,33 @@ pub record Output : Type 0 where
 abbrev pub output_of : Option (List ℕ) → ℕ → Output
 output_of text faults = record { text = text; faults = faults }
 
--- A step was taken, with this reply to its change, and then this is next.
+-- ---- a step
+
+-- a change was refused since there is a file of its name already
+abbrev pub says_exists : Reply → Bool
+says_exists (reply.No code.Exists) = true
+says_exists r = false
+
+-- what is asked for after this reply to the change of a step
+abbrev pub asked_then : Reply → (instead : Option Change) → Option Change
+asked_then r instead = if says_exists r then instead else None
+
+-- This change was asked for, with this reply; or there is none, and the first reply is that of the step.
+abbrev pub ThenDid : Option Change → (first r : Reply) → (s t : Mounted) → Type 0
+ThenDid (Some change) first r s t = CommandDid (change_command change) r s t
+ThenDid None first r s t = (r ≡ first) × (t ≡ s)
+
+-- The change of a step was asked for, and then the one instead of it if there is a file of its name already. This was
+-- the last reply.
+pub record StepTried (step : Step) (r : Reply) (s t : Mounted) : Type 0 where
+  pub first : Reply
+  pub between : Mounted
+  pub did : CommandDid (change_command step.change) first s between
+  pub rest : ThenDid (asked_then first step.instead) first r between t
+
+-- A step was taken, with this reply, and then this is next.
 pub record StepTaken (early : Bool) (step : Step) (r : Reply) (n : Next) (s t : Mounted) (old now : Output) : Type 0 where
-  pub did : CommandDid (change_command step.change) r s t
+  pub tried : StepTried step r s t
   pub tells : NextBy early r step.line.now n old.text now.text old.faults now.faults
 
 -- What follows a step: if the job goes on, the rest; otherwise nothing, and no step after it has a reply. `lost` says
@@ -66,18 +94,56 @@ StepsTaken early steps replies lost s t old now = ⊥
 abbrev pub changes_went : (lost : Bool) → List Reply → Went
 changes_went lost replies = if lost then went.Unwritten else (if list_all was_made replies then went.Done else went.NotAll)
 
--- the commands of these steps
-abbrev pub commands_of : List Step → List VolumeCommand
-commands_of steps = map (λ step. change_command step.change) steps
+-- ---- the volume after steps
 
--- the volume after these commands, on a medium of n records: each that is refused changes nothing
-abbrev pub after : ℕ → List VolumeCommand → Option Volume → Option Volume
-after n commands v = fold (λ v command. (apply n command v).1) v commands
+-- A command of a step, and the one instead of it if there is a file of its name already.
+pub record Attempt : Type 0 where
+  pub command : VolumeCommand
+  pub instead : Option VolumeCommand
 
--- A power stop within the job leaves the volume after a front of its commands.
-abbrev pub FrontIsLeft : List VolumeCommand → Mounted → Tape → Type 0
-FrontIsLeft commands s x = OwnsGate s.tape
-    → (k : ℕ) × (k ≤ length commands) × (finished_volume_of x ≡ after s.records (take k commands) (volume_seen s.tape))
+abbrev pub attempt_of : Step → Attempt
+attempt_of step = record { command = change_command step.change; instead = option_map change_command step.instead }
+
+abbrev pub attempts_of : List Step → List Attempt
+attempts_of steps = map attempt_of steps
+
+-- the volume after a command and the one instead of it, by the refusal of the first: the other one is asked for only if
+-- there is a file of its name already
+abbrev pub with_instead : ℕ → (instead : Option VolumeCommand) → Option Refusal → Option Volume → Option Volume
+with_instead n None refusal v = v
+with_instead n (Some command) (Some Exists) v = (apply n command v).1
+with_instead n (Some command) refusal v = v
+
+-- the volume after an attempt, on a medium of n records: a command that is refused changes nothing
+abbrev pub attempted : ℕ → Attempt → Option Volume → Option Volume
+attempted n a v = with_instead n a.instead (apply n a.command v).0 (apply n a.command v).1
+
+-- the volume after these attempts
+abbrev pub after : ℕ → List Attempt → Option Volume → Option Volume
+after n attempts v = fold (λ v a. attempted n a v) v attempts
+
+-- A power stop within an attempt leaves the volume before it, or the one after it.
+abbrev pub AttemptLeaves : Attempt → Mounted → Tape → Type 0
+AttemptLeaves a s x = OwnsGate s.tape
+    → (finished_volume_of x ≡ volume_seen s.tape) ⊎ (finished_volume_of x ≡ attempted s.records a (volume_seen s.tape))
+
+-- A power stop within the job leaves the volume after a front of its attempts.
+abbrev pub FrontIsLeft : List Attempt → Mounted → Tape → Type 0
+FrontIsLeft attempts s x = OwnsGate s.tape
+    → (k : ℕ) × (k ≤ length attempts) × (finished_volume_of x ≡ after s.records (take k attempts) (volume_seen s.tape))
+
+-- ---- what is said of a step
+
+-- what a step asks for; the subject of its message; and what is printed once it was done
+pub record SaidStep : Type 0 where
+  pub attempt : Attempt
+  pub subject : List ℕ
+  pub line : List ℕ
+
+abbrev pub said : Step → SaidStep
+said step = record { attempt = attempt_of step; subject = step.subject.now; line = step.line.now }
+
+-- ---- the job
 
 -- The changes were made or refused, with these replies, and the job went so.
 pub record ChangesDid (early : Bool) (steps : List Step) (w : Went) (replies : List Reply) (s t : Mounted) (old now : Output) : Type 0 where
@@ -85,6 +151,10 @@ pub record ChangesDid (early : Bool) (steps : List Step) (w : Went) (replies : L
   pub taken : StepsTaken early steps replies lost s t old now
   pub went_so : w ≡ changes_went lost replies
 
--- each change can be asked for
+-- the changes of a step can be asked for
+pub record IsFormedStep (step : Step) : Type 0 where
+  pub change : IsFormedChange step.change
+  pub instead : IfSome step.instead IsFormedChange
+
 abbrev pub AreFormed : List Step → Type 0
-AreFormed steps = All (λ step. IsFormedChange step.change) steps
+AreFormed steps = All IsFormedStep steps

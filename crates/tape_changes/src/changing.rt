@@ -2,12 +2,13 @@
 ghost use Rattle.std.specs.Prelude.{◌≡◌, ◌<◌, ◌≤◌, [], length};
 ghost use Rattle.std.specs.List.{list_all};
 ghost use Rattle.std.specs.Vec.{vec_capacity};
-ghost use Rattle.tape_changes.specs.Changing.{AreFormed, ChangesDid, FrontIsLeft, NextBy, StepsTaken};
-ghost use Rattle.tape_changes.specs.Changing.{commands_of, was_made, output_of};
+ghost use Rattle.tape_changes.specs.Changing.{AreFormed, AttemptLeaves, ChangesDid, FrontIsLeft, IsFormedStep, NextBy};
+ghost use Rattle.tape_changes.specs.Changing.{StepTried, StepsTaken, attempt_of, attempts_of, output_of, says_exists};
+ghost use Rattle.tape_changes.specs.Changing.{was_made};
 ghost use Rattle.tape_volumes.specs.Volumes.{StaysBeside};
 
 use il_ports::{Sink, write_all};
-use il_script::Reply;
+use il_script::{Code, Reply};
 use std::alloc::Global;
 use tape_volumes::{Change, VolumeJob, Volumes, Went};
 
@@ -16,6 +17,8 @@ use tape_volumes::{Change, VolumeJob, Volumes, Went};
 pub struct Step<'a> {
     /// The change.
     pub change: Change<'a>,
+    /// What is asked for instead of it, if it is refused since there is a file of its name already.
+    pub instead: Option<Change<'a>>,
     /// What a message says that it concerns, such as the name of a file.
     pub subject: &'a [u8],
     /// What is printed once it was made.
@@ -60,6 +63,29 @@ fn all_made(replies: &[Reply]) -> bool
     true
 }
 
+/// Whether a change was refused since there is a file of its name already.
+fn says_exists(reply: Reply) -> bool
+    ensures { result ≡ says_exists reply }
+{
+    matches!(reply, Reply::No(Code::Exists))
+}
+
+/// Asks for the change of a step, and then for the one instead of it if there is a file of its name already.
+fn try_step<V: Volumes>(volumes: &mut V, step: &Step<'_>) -> Reply
+    requires valid { (V.seen volumes.old).valid }
+    requires formed { IsFormedStep step.now }
+    ensures valid { (V.seen volumes.new).valid }
+    ensures tried { StepTried step.now result (V.seen volumes.old).mounted (V.seen volumes.new).mounted }
+    ensures beside { StaysBeside (AttemptLeaves (attempt_of step.now) (V.seen volumes.old).mounted)
+        (V.seen volumes.old) (V.seen volumes.new) }
+{
+    let first = volumes.change(&step.change);
+    match &step.instead {
+        Some(change) if says_exists(first) => volumes.change(change),
+        _ => first,
+    }
+}
+
 /// Takes the steps, one after the other, until the job ends. Says whether standard output failed.
 fn take_steps<V: Volumes, K: Sink>(
     volumes: &mut V,
@@ -77,11 +103,11 @@ fn take_steps<V: Volumes, K: Sink>(
     ensures taken { StepsTaken ends_early steps.now replies.new.items result
         (V.seen volumes.old).mounted (V.seen volumes.new).mounted
         (output_of (K.written out.old) (K.faults out.old)) (output_of (K.written out.new) (K.faults out.new)) }
-    ensures beside { StaysBeside (FrontIsLeft (commands_of steps.now) (V.seen volumes.old).mounted)
+    ensures beside { StaysBeside (FrontIsLeft (attempts_of steps.now) (V.seen volumes.old).mounted)
         (V.seen volumes.old) (V.seen volumes.new) }
 {
     'steps: for step in steps {
-        let reply = volumes.change(&step.change);
+        let reply = try_step(volumes, step);
         replies.push(reply).unwrap();
         match next_by(reply, ends_early, step.line, out) {
             Next::GoesOn => {}
@@ -109,7 +135,7 @@ fn make_changes<V: Volumes, K: Sink>(
     ensures did { ChangesDid ends_early steps.now result replies.new.items
         (V.seen volumes.old).mounted (V.seen volumes.new).mounted
         (output_of (K.written out.old) (K.faults out.old)) (output_of (K.written out.new) (K.faults out.new)) }
-    ensures beside { StaysBeside (FrontIsLeft (commands_of steps.now) (V.seen volumes.old).mounted)
+    ensures beside { StaysBeside (FrontIsLeft (attempts_of steps.now) (V.seen volumes.old).mounted)
         (V.seen volumes.old) (V.seen volumes.new) }
 {
     if take_steps(volumes, steps, ends_early, replies, out) {
@@ -138,7 +164,7 @@ pub struct Changing<'a, K: Drop> {
 impl<'a, K: Sink + Drop> VolumeJob for Changing<'a, K> {
     ghost use Rattle.std.specs.Prelude.{◌≡◌, ◌<◌, ◌≤◌, [], length};
     ghost use Rattle.std.specs.Vec.{vec_capacity};
-    ghost use Rattle.tape_changes.specs.Changing.{AreFormed, ChangesDid, FrontIsLeft, commands_of, output_of};
+    ghost use Rattle.tape_changes.specs.Changing.{AreFormed, ChangesDid, FrontIsLeft, attempts_of, output_of};
 
     ghost asks = { λ job. AreFormed job.steps.now × (0 < length job.steps.now) × (job.replies.items ≡ [])
         × (length job.steps.now ≤ vec_capacity job.replies) };
@@ -146,7 +172,7 @@ impl<'a, K: Sink + Drop> VolumeJob for Changing<'a, K> {
     ghost does = { λ old new went s t. ChangesDid old.ends_early old.steps.now went new.replies.items s t
         (output_of (K.written old.out) (K.faults old.out)) (output_of (K.written new.out) (K.faults new.out)) };
 
-    ghost leaves = { λ job s x. FrontIsLeft (commands_of job.steps.now) s x };
+    ghost leaves = { λ job s x. FrontIsLeft (attempts_of job.steps.now) s x };
 
     fn work<V: Volumes>(&mut self, _: Global, volumes: &mut V) -> Went {
         make_changes(

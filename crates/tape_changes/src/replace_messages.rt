@@ -4,6 +4,7 @@ ghost use Rattle.il_ports.specs.Writing.{WritesAll};
 ghost use Rattle.lif_model.specs.Causes.{HasCause};
 ghost use Rattle.tape_changes.specs.ReplaceMessages.{kind_digit, kind_digits, other_type, replaced_message};
 ghost use Rattle.tape_changes.specs.ReplaceMessages.{stored_message, unlisted_message};
+ghost use Rattle.tape_changes.specs.Replacing.{text_kind};
 ghost use Rattle.tape_volumes.specs.Messages.{WritesMessage};
 
 use crate::change_messages::{write_change, write_told_of};
@@ -62,6 +63,7 @@ fn write_stored<K: Sink>(
     file: &NewFile<'_>,
     stored: Stored,
 ) -> Result<(), Failed>
+    requires text { file.now.kind ≡ text_kind }
     ensures parts { WritesAll (K.written to.old) (K.written to.new)
         (stored_message image.now text.now file.now stored) result }
     ensures cause { HasCause (K.faults to.old) (K.faults to.new) result }
@@ -86,6 +88,7 @@ fn write_message_of<K: Sink>(
     file: &NewFile<'_>,
     stored: Stored,
 ) -> Result<(), Failed>
+    requires text { file.now.kind ≡ text_kind }
     ensures parts { WritesAll (K.written to.old) (K.written to.new)
         (replaced_message image.now text.now ending file.now stored) result }
     ensures cause { HasCause (K.faults to.old) (K.faults to.new) result }
@@ -106,6 +109,7 @@ pub fn write_replaced<K: Sink>(
     file: &NewFile<'_>,
     stored: Stored,
 )
+    requires text { file.now.kind ≡ text_kind }
     ensures { WritesMessage (replaced_message image.now text.now ending file.now stored)
         (K.written to.old) (K.written to.new) (K.faults to.old) (K.faults to.new) }
 {

@@ -3,6 +3,7 @@
 
 mod drives;
 mod folders;
+mod made;
 mod makers;
 mod system;
 

@@ -1,5 +1,6 @@
 use crate::drives::Drives;
 use crate::folders::Folders;
+use crate::made::{make_among, take_away};
 use crate::makers::Makers;
 use il_ports::{FileMedium, Images, Size, TapeFile, ToChange, ToRead};
 use made_images::{MadeImage, NotMade};
@@ -112,16 +113,12 @@ impl<R: Files<File = File> + Copy + Drop> Makers<MadeImage<SystemFile, SystemIma
         name: &str,
         size: Size,
     ) -> Result<MadeImage<SystemFile, SystemImages<R>>, NotMade> {
-        match MadeImage::make(alloc, SystemImages::new(self.files), name, size) {
-            Ok(drive) => Ok(drive),
-            Err(refused) => Err(refused.why),
-        }
+        make_among(alloc, SystemImages::new(self.files), name, size)
     }
 
     fn keep(&mut self, _: MadeImage<SystemFile, SystemImages<R>>) {}
 
     fn remove(&mut self, drive: MadeImage<SystemFile, SystemImages<R>>) -> bool {
-        let (removed, _) = drive.remove();
-        removed.is_ok()
+        take_away(drive)
     }
 }

@@ -16,15 +16,15 @@ pub record IsAll (bytes : List ℕ) (left left_now : Option (List ℕ)) : Type 0
   pub rest : IsAtEnd left_now
 
 -- at most so many bytes were taken of the source
-abbrev pub TakesAtMost : (most : ℕ) → (left left_now : Option (List ℕ)) → Type 0
-TakesAtMost most left left_now = (taken : List ℕ) × Consumes left left_now taken × (length taken ≤ most)
+abbrev pub TakesUpTo : (most : ℕ) → (left left_now : Option (List ℕ)) → Type 0
+TakesUpTo most left left_now = (taken : List ℕ) × Consumes left left_now taken × (length taken ≤ most)
 
 -- All bytes of the source were read; or it has more than `most`, of which one more was read; or it failed; or there was no
 -- memory, and it was not asked.
 abbrev pub ReadsAll : (most : ℕ) → (left left_now : Option (List ℕ)) → (faults faults_now : ℕ) → Result (Vec ℕ Global) NoText → Type 0
 ReadsAll most left left_now faults faults_now (Ok bytes) = IsAll bytes.items left left_now × (length bytes.items ≤ most) × (faults_now ≡ faults)
-ReadsAll most left left_now faults faults_now (Err no_text.Unread) = TakesAtMost (most + 1) left left_now × Rose faults faults_now
-ReadsAll most left left_now faults faults_now (Err no_text.TooLarge) = IfSome left (λ whole. most < length whole) × TakesAtMost (most + 1) left left_now × (faults_now ≡ faults)
+ReadsAll most left left_now faults faults_now (Err no_text.Unread) = TakesUpTo (most + 1) left left_now × Rose faults faults_now
+ReadsAll most left left_now faults faults_now (Err no_text.TooLarge) = IfSome left (λ whole. most < length whole) × TakesUpTo (most + 1) left left_now × (faults_now ≡ faults)
 ReadsAll most left left_now faults faults_now (Err no_text.OutOfMemory) = (left_now ≡ left) × (faults_now ≡ faults)
 ReadsAll most left left_now faults faults_now (Err (no_text.LongLine number)) = ⊥
 
@@ -42,7 +42,7 @@ IsTooLarge whole = (largest_image < length whole) ⊎ (largest_image < length (e
 -- there was no memory.
 abbrev pub ReadsText : (left left_now : Option (List ℕ)) → (faults faults_now : ℕ) → Result BufferView NoText → Type 0
 ReadsText left left_now faults faults_now (Ok text) = (whole : List ℕ) × IsAll whole left left_now × IsTextFileOf whole text.bytes × (faults_now ≡ faults)
-ReadsText left left_now faults faults_now (Err no_text.Unread) = TakesAtMost (largest_image + 1) left left_now × Rose faults faults_now
-ReadsText left left_now faults faults_now (Err no_text.TooLarge) = IfSome left IsTooLarge × TakesAtMost (largest_image + 1) left left_now × (faults_now ≡ faults)
+ReadsText left left_now faults faults_now (Err no_text.Unread) = TakesUpTo (largest_image + 1) left left_now × Rose faults faults_now
+ReadsText left left_now faults faults_now (Err no_text.TooLarge) = IfSome left IsTooLarge × TakesUpTo (largest_image + 1) left left_now × (faults_now ≡ faults)
 ReadsText left left_now faults faults_now (Err (no_text.LongLine number)) = IfSome left (λ whole. long_line (cut_lines whole) ≡ Some number) × (faults_now ≡ faults)
 ReadsText left left_now faults faults_now (Err no_text.OutOfMemory) = faults_now ≡ faults

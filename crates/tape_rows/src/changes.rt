@@ -1,5 +1,5 @@
 //! The job that makes changes, over a volume whose answers the test gives.
-ghost use Rattle.tape_volumes.specs.Changes.{IsFormedChange};
+ghost use Rattle.tape_changes.specs.Changing.{IsFormedStep};
 
 use crate::given::{Answer, Given, volume};
 use il_ports::MemorySink;
@@ -18,10 +18,11 @@ fn name(rt: &impl Abort, text: &[u8]) -> Name {
 
 /// The step that purges the file of that name.
 fn purge<'a>(rt: &impl Abort, file: &'a [u8], line: &'a [u8]) -> Step<'a>
-    ensures { IsFormedChange result.change }
+    ensures { IsFormedStep result }
 {
     Step {
         change: Change::Purge(name(rt, file)),
+        instead: None,
         subject: file,
         line,
     }
@@ -151,6 +152,7 @@ fn tells(
     assert!(rt; parts.is_ok());
     let steps = [Step {
         change,
+        instead: None,
         subject: b"A",
         line: b"",
     }];

@@ -1,2 +1,3 @@
 mod Said
 pub mod Fronts
+pub mod Rooms

@@ -1,6 +1,6 @@
 use Rattle.std.proofs.Common.{◌∙◌, ap, length, map}
 use Rattle.std.proofs.lemmas.List.{length-map}
-use Rattle.tape.proofs.Purged.{spelt_length}
+use Rattle.tape_arguments.proofs.Spelt.{spelt_length}
 use Rattle.tape.proofs.changes.purge_files.Goals as goal
 
 pub purge_named-requires-clause-each : goal.purge_named-requires-clause-each

@@ -1,4 +1,4 @@
-use Rattle.tape_changes.proofs.Steps.{size_kept}
+use Rattle.tape_changes.proofs.Joined.{size_kept}
 use Rattle.tape_changes.proofs.changing.ChangingVolumeJob.work.Goals as goal
 
 pub returns-clause-size : goal.returns-clause-size

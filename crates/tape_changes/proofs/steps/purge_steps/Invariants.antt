@@ -1,8 +1,8 @@
 use Rattle.std.proofs.Common.{◌≡◌, ◌≤◌, ◌++◌, map, drop, length}
 use Rattle.std.specs.Vec.{vec_capacity}
-use Rattle.tape.specs.Changes.{purges, said}
-use Rattle.tape_changes.specs.Changing.{AreFormed}
-use Rattle.tape.proofs.changes.purge_steps.Given as goal
+use Rattle.tape_changes.specs.Changing.{AreFormed, said}
+use Rattle.tape_changes.specs.Steps.{purges}
+use Rattle.tape_changes.proofs.steps.purge_steps.Given as goal
 
 abbrev pub invariant-names : goal.invariant-names
 invariant-names l = record {

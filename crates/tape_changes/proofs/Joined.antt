@@ -3,20 +3,19 @@ use Rattle.std.proofs.Common.{◌≡◌, ◌⊎◌, inl, inr, ⊎_elim, ◌≤�
 use Rattle.std.specs.Prelude.{◌<◌, ◌+◌, OnErr, Result, Ok, Err, is_ok, is_some, drop, get_or, length, take, if◌then◌else◌}
 use Rattle.std.proofs.lemmas.Grind.{fold-append}
 use Rattle.std.proofs.lemmas.List.{append-nil, drop_more, length-map, map_more, take-map}
-use Rattle.lif_model.specs.Apply.{VolumeCommand, apply}
+use Rattle.lif_model.specs.Apply.{VolumeCommand}
 use Rattle.lif_model.specs.Shelf.{Shelf}
 use Rattle.lif_model.specs.Stops.{LeavesOnly}
 use Rattle.lif_model.specs.Tape.{Tape}
 use Rattle.lif_model.specs.Volume.{Volume}
 use Rattle.il_ports.specs.Inserting.{OthersAreKept}
 use Rattle.il_script.specs.declared.reply.Reply.{Reply}
-use Rattle.il_script.specs.declared.reply.Reply.TheVariants as reply
-use Rattle.tape_volumes.specs.Changes.{change_command}
-use Rattle.tape_volumes.specs.Volumes.{CommandDid, DoneWhole, Mounted, OwnsGate, StaysBeside, StopLeaves, VolumesView, volume_seen, volume_shown}
+use Rattle.tape_volumes.specs.Volumes.{CommandDid, Mounted, OwnsGate, StaysBeside, StopLeaves, VolumesView, volume_seen}
 use Rattle.tape_changes.specs.declared.changing.Step.{Step}
 use Rattle.tape_changes.specs.declared.changing.Next.{Next}
 use Rattle.tape_changes.specs.declared.changing.Next.TheVariants as next
-use Rattle.tape_changes.specs.Changing.{Follows, FrontIsLeft, NextBy, Output, StepTaken, StepsTaken, after, commands_of}
+use Rattle.tape_changes.specs.Changing.{Attempt, AttemptLeaves, Follows, FrontIsLeft, NextBy, Output, StepTaken, StepTried, StepsTaken, after, attempt_of, attempted, attempts_of, says_exists}
+use Rattle.tape_changes.proofs.Attempts.{done_attempt, left_first, left_then, tried_own, tried_seen, tried_size}
 
 -- ---- the steps so far
 
@@ -47,11 +46,6 @@ pub joins_none : (early : Bool) (all steps : List Step) (done : List Reply) (s :
 joins_none early all steps done s old none same replies lost t now taken =
     subst (λ (l : List Reply). StepsTaken early all (l ++ replies) lost s t old now) (sym none) (subst (λ (l : List Step). StepsTaken early l replies lost s t old now) same taken)
 
--- a push into a vector that has room
-pub pushed : {A T E : Type 0} (result : Result T E) (len cap : ℕ) (items more less : List A) → OnErr result (cap ≤ len) → len < cap → items ≡ (if is_ok result then more else less) → items ≡ more
-pushed (Ok x) len cap items more less full room is = is
-pushed (Err e) len cap items more less full room is = absurd (omega (arith, full, room))
-
 after_it : (n : Next) (rest : Type 0) (replies : List Reply) (lost : Bool) (s t : Mounted) (old now : Output) → (rest → t.records ≡ s.records) → Follows n rest replies lost s t old now → t.records ≡ s.records
 after_it next.GoesOn rest replies lost s t old now by follows = by follows
 after_it next.Ends rest replies lost s t old now by follows = ap (λ (m : Mounted). m.records) follows.2
@@ -63,79 +57,65 @@ size_kept early [] [] lost s t old now taken = ap (λ (m : Mounted). m.records) 
 size_kept early [] (r ∷ replies) lost s t old now taken = absurd taken
 size_kept early (step ∷ steps) [] lost s t old now taken = absurd taken
 size_kept early (step ∷ steps) (r ∷ replies) lost s t old now (n, u, told, first, follows) =
-    after_it n _ replies lost u t told now (size_kept early steps replies lost u t told now) follows ∙ first.did.records
+    after_it n _ replies lost u t told now (size_kept early steps replies lost u t told now) follows ∙ tried_size _ _ _ _ first.tried
 
--- ---- the volume after a front of the commands
+-- ---- the volume after a front of the attempts
 
--- These commands were performed or refused, without a fault.
-pub record IsAfter (commands : List VolumeCommand) (s u : Mounted) : Type 0 where
+-- These attempts were made or refused, without a fault.
+pub record IsAfter (attempts : List Attempt) (s u : Mounted) : Type 0 where
   pub records : u.records ≡ s.records
   pub seen : is_some u.tape ≡ is_some s.tape
   pub own : OwnsGate s.tape → OwnsGate u.tape
-  pub volume : is_some s.tape ≡ true → OwnsGate s.tape → volume_seen u.tape ≡ after s.records commands (volume_seen s.tape)
+  pub volume : is_some s.tape ≡ true → OwnsGate s.tape → volume_seen u.tape ≡ after s.records attempts (volume_seen s.tape)
 
-pub after_none : (commands : List VolumeCommand) (s : Mounted) → commands ≡ [] → IsAfter commands s s
-after_none commands s none = record {
+pub after_none : (attempts : List Attempt) (s : Mounted) → attempts ≡ [] → IsAfter attempts s s
+after_none attempts s none = record {
   records = refl;
   seen = refl;
   own = λ own. own;
-  volume = λ told own. sym (ap (λ (l : List VolumeCommand). after s.records l (volume_seen s.tape)) none);
+  volume = λ told own. sym (ap (λ (l : List Attempt). after s.records l (volume_seen s.tape)) none);
 }
 
-pub seen_of : (w : Option Tape) (v : Option Volume) → volume_shown w ≡ Some v → volume_seen w ≡ v
-seen_of None v e = cc
-seen_of (Some z) v e = cc
-
-pub shown_of : (u : Option Tape) → is_some u ≡ true → volume_shown u ≡ Some (volume_seen u)
-shown_of None e = cc
-shown_of (Some y) e = refl
-
-done_so : (early : Bool) (r answer : Reply) (line : List ℕ) (before now : Option (List ℕ)) (faults faults_now : ℕ) (own : Type 0) (was is : Option Volume) (shown : Option (Option Volume))
-    → NextBy early r line next.GoesOn before now faults faults_now → DoneWhole r answer own was is shown → shown ≡ Some is
-done_so early reply.Ok answer line before now faults faults_now own was is shown tells done = done.1
-done_so early (reply.No code) answer line before now faults faults_now own was is shown tells done = done.1
-done_so early reply.FaultFrame answer line before now faults faults_now own was is shown tells done = absurd done
-done_so early reply.FaultMedium answer line before now faults faults_now own was is shown tells done = let no : next.GoesOn ≡ next.Ends = tells.0 in cc
-
-module _ (all front : List VolumeCommand) (command : VolumeCommand) (is : all ≡ front ++ command ∷ []) (s u : Mounted) (before : IsAfter front s u) where
-  one_more : is_some s.tape ≡ true → OwnsGate s.tape → (apply u.records command (volume_seen u.tape)).1 ≡ after s.records all (volume_seen s.tape)
+module _ (all front : List Attempt) (a : Attempt) (is : all ≡ front ++ a ∷ []) (s u : Mounted) (before : IsAfter front s u) where
+  one_more : is_some s.tape ≡ true → OwnsGate s.tape → attempted u.records a (volume_seen u.tape) ≡ after s.records all (volume_seen s.tape)
   one_more told own =
-      (λ j. (apply (before.records j) command (before.volume told own j)).1)
-      ∙ sym (ap (λ (l : List VolumeCommand). after s.records l (volume_seen s.tape)) is ∙ fold-append (λ (v : Option Volume) (c : VolumeCommand). (apply s.records c v).1) (volume_seen s.tape) front (command ∷ []))
+      (λ j. attempted (before.records j) a (before.volume told own j))
+      ∙ sym (ap (λ (l : List Attempt). after s.records l (volume_seen s.tape)) is ∙ fold-append (λ (v : Option Volume) (a : Attempt). attempted s.records a v) (volume_seen s.tape) front (a ∷ []))
 
-  pub after_next : (early : Bool) (r : Reply) (line : List ℕ) (w : Mounted) (old now : Output) → CommandDid command r u w → NextBy early r line next.GoesOn old.text now.text old.faults now.faults → IsAfter all s w
-  after_next early r line w old now did tells = record {
-    records = did.records ∙ before.records;
-    seen = did.seen ∙ before.seen;
-    own = λ own. did.own (before.own own);
+  pub after_next : (step : Step) → attempt_of step ≡ a → (early : Bool) (r : Reply) (line : List ℕ) (w : Mounted) (old now : Output) → StepTried step r u w
+      → NextBy early r line next.GoesOn old.text now.text old.faults now.faults → IsAfter all s w
+  after_next step that early r line w old now tried tells = record {
+    records = tried_size step r u w tried ∙ before.records;
+    seen = tried_seen step r u w tried ∙ before.seen;
+    own = λ own. tried_own step r u w tried (before.own own);
     volume = λ told own.
-        seen_of w.tape _ (done_so early r _ line old.text now.text old.faults now.faults _ _ _ _ tells (did.whole (volume_seen u.tape) (shown_of u.tape (before.seen ∙ told))))
-        ∙ one_more told own;
+        done_attempt step u early r line w old now tells (before.seen ∙ told) tried
+        ∙ ap (λ (b : Attempt). attempted u.records b (volume_seen u.tape)) that ∙ one_more told own;
   }
 
-  -- a power stop within the next command
-  pub left_next : (commands : List VolumeCommand) (i : ℕ) → i < length commands → front ≡ take i commands → all ≡ take (i + 1) commands → is_some s.tape ≡ true
-      → (x : Tape) → StopLeaves command u x → FrontIsLeft commands s x
-  left_next commands i lt fronts alls told x left own =
-      ⊎_elim (λ same. (i, omega (arith, lt), same ∙ before.volume told own ∙ ap (λ (l : List VolumeCommand). after s.records l (volume_seen s.tape)) fronts))
-      (λ made. (i + 1, omega (arith, lt), made ∙ one_more told own ∙ ap (λ (l : List VolumeCommand). after s.records l (volume_seen s.tape)) alls)) (left (before.own own))
+  -- a power stop within the next attempt
+  pub left_next : (attempts : List Attempt) (i : ℕ) → i < length attempts → front ≡ take i attempts → all ≡ take (i + 1) attempts → is_some s.tape ≡ true
+      → (x : Tape) → AttemptLeaves a u x → FrontIsLeft attempts s x
+  left_next attempts i lt fronts alls told x left own =
+      ⊎_elim (λ same. (i, omega (arith, lt), same ∙ before.volume told own ∙ ap (λ (l : List Attempt). after s.records l (volume_seen s.tape)) fronts))
+      (λ made. (i + 1, omega (arith, lt), made ∙ one_more told own ∙ ap (λ (l : List Attempt). after s.records l (volume_seen s.tape)) alls)) (left (before.own own))
 
 -- a step, and those after it
 pub step_next : (steps : List Step) (i : ℕ) (step : Step) → i < length steps → step ≡ get_or steps i step → drop i steps ≡ step ∷ drop (i + 1) steps
 step_next steps i step lt is = drop_more steps i step lt ∙ ap (λ (s : Step). s ∷ drop (i + 1) steps) (sym is)
 
-pub commands_next : (steps : List Step) (i : ℕ) (step : Step) → i < length steps → step ≡ get_or steps i step
-    → take (i + 1) (commands_of steps) ≡ take i (commands_of steps) ++ change_command step.change ∷ []
-commands_next steps i step lt is =
-    let f = λ (step : Step). change_command step.change in
-    take-map f (i + 1) steps ∙ map_more f steps i step lt ∙ ap (λ (l : List VolumeCommand). l ++ f (get_or steps i step) ∷ []) (sym (take-map f i steps))
-    ∙ ap (λ (s : Step). take i (commands_of steps) ++ f s ∷ []) (sym is)
+pub attempts_next : (steps : List Step) (i : ℕ) (step : Step) → i < length steps → step ≡ get_or steps i step
+    → take (i + 1) (attempts_of steps) ≡ take i (attempts_of steps) ++ attempt_of step ∷ []
+attempts_next steps i step lt is =
+    let f = attempt_of in
+    take-map f (i + 1) steps ∙ map_more f steps i step lt ∙ ap (λ (l : List Attempt). l ++ f (get_or steps i step) ∷ []) (sym (take-map f i steps))
+    ∙ ap (λ (s : Step). take i (attempts_of steps) ++ f s ∷ []) (sym is)
 
-pub left_at : (steps : List Step) (i : ℕ) (step : Step) (s u : Mounted) → i < length steps → step ≡ get_or steps i step → IsAfter (take i (commands_of steps)) s u → is_some s.tape ≡ true
-    → (x : Tape) → StopLeaves (change_command step.change) u x → FrontIsLeft (commands_of steps) s x
+pub left_at : (steps : List Step) (i : ℕ) (step : Step) (s u : Mounted) → i < length steps → step ≡ get_or steps i step → IsAfter (take i (attempts_of steps)) s u → is_some s.tape ≡ true
+    → (x : Tape) → AttemptLeaves (attempt_of step) u x → FrontIsLeft (attempts_of steps) s x
 left_at steps i step s u lt is before told x left =
-    left_next (take (i + 1) (commands_of steps)) (take i (commands_of steps)) _ (commands_next steps i step lt is) s u before (commands_of steps) i
-    (omega (arith, lt, length-map steps (λ (step : Step). change_command step.change))) refl refl told x left
+    left_next (take (i + 1) (attempts_of steps)) (take i (attempts_of steps)) _ (attempts_next steps i step lt is) s u before (attempts_of steps) i
+    (omega (arith, lt, length-map steps attempt_of)) refl refl told x left
 
 -- ---- beside the tape, and after power stops
 
@@ -199,3 +179,18 @@ beside_all i P v w lt a = record {
   same = a.same;
   others = a.others;
 }
+
+-- ---- a step
+
+module _ (a : Attempt) (r : Reply) (v u : VolumesView) (did : CommandDid a.command r v.mounted u.mounted) (beside : StaysBeside (StopLeaves a.command v.mounted) v u) where
+  -- the first command alone
+  pub beside_first : StaysBeside (AttemptLeaves a v.mounted) v u
+  beside_first =
+      beside_next 0 (AttemptLeaves a v.mounted) (StopLeaves a.command v.mounted) v v u refl (λ told x left. left_first a v.mounted x left) (beside_none (AttemptLeaves a v.mounted) v) beside
+
+  -- and then the one instead of it
+  pub beside_then : says_exists r ≡ true → (command : VolumeCommand) → a.instead ≡ Some command → (w : VolumesView) → StaysBeside (StopLeaves command u.mounted) u w → StaysBeside (AttemptLeaves a v.mounted) v w
+  beside_then exists command instead w later =
+      beside_next 1 (AttemptLeaves a v.mounted) (StopLeaves command u.mounted) v u w did.seen
+      (λ told x left. left_then a v.mounted r u.mounted did exists command instead told x left)
+      (beside_on 0 (AttemptLeaves a v.mounted) v u beside_first) later

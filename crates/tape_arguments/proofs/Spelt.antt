@@ -4,7 +4,7 @@ use Rattle.std.specs.Prelude.{option_map, option_and_then, is_none, if◌then◌
 use Rattle.std.proofs.Math.ListN.{get_or-map}
 use Rattle.std.proofs.lemmas.List.{append_assoc, append-nil, drop_more, length-map}
 use Rattle.lif_dir.specs.declared.entries.Name.{Name}
-use Rattle.tape.specs.Names.{name_spelt, names_spelt, unspelt}
+use Rattle.tape_arguments.specs.Names.{name_spelt, names_spelt, unspelt}
 
 -- these names, and then those that are to come, if there are some
 abbrev pub with_names : List Name → Option (List Name) → Option (List Name)
@@ -17,6 +17,24 @@ name_before name rest = option_and_then (λ name. option_map (λ names. name ∷
 one_name_more : (names : List Name) (name : Name) (rest : Option (List Name)) → with_names (names ++ name ∷ []) rest ≡ with_names names (name_before (Some name) rest)
 one_name_more names name None = refl
 one_name_more names name (Some more) = ap Some (append_assoc names (name ∷ []) more)
+
+-- as many names as texts
+pub spelt_length : (texts : List (List ℕ)) (names : List Name) → names_spelt texts ≡ Some names → length names ≡ length texts
+spelt_length [] names is = ap length (other is)
+  where
+    other : Some [] ≡ Some names → names ≡ []
+    other e = cc
+spelt_length (text ∷ texts) names is = go (λ more. spelt_length texts more) (name_spelt text) (names_spelt texts) refl is
+  where
+    go : ((more : List Name) → names_spelt texts ≡ Some more → length more ≡ length texts) → (a : Option Name) (b : Option (List Name)) → names_spelt texts ≡ b → name_before a b ≡ Some names
+        → length names ≡ length (text ∷ texts)
+    go rest None b found is = cc
+    go rest (Some name) None found is = cc
+    go rest (Some name) (Some more) found is =
+        let same : name ∷ more ≡ names = cc in
+        let long = ap length same in
+        let shorter = rest more found in
+        omega (arith, long, shorter)
 
 module _ (texts : List (Bor (List ℕ))) (i : ℕ) (d : Bor (List ℕ)) (within : i < length texts) where
   abbrev words : List (List ℕ)

@@ -1,8 +1,8 @@
 use Rattle.std.proofs.Common.{◌≡◌, ◌≤◌, map, drop, length}
 use Rattle.std.specs.Vec.{vec_capacity}
-use Rattle.tape.specs.Names.{names_spelt, unspelt}
-use Rattle.tape.proofs.Spelt.{with_names}
-use Rattle.tape.proofs.names.names_spelt.Given as goal
+use Rattle.tape_arguments.specs.Names.{names_spelt, unspelt}
+use Rattle.tape_arguments.proofs.Spelt.{with_names}
+use Rattle.tape_arguments.proofs.names.names_spelt.Given as goal
 
 abbrev pub invariant-texts : goal.invariant-texts
 invariant-texts l = record {

@@ -1,9 +1,9 @@
 use Rattle.std.proofs.Common.{◌≡◌, ◌++◌, ◌∷◌, ◌∙◌, ◌+◌, List, [], ap, arith, rules, drop, map, length, length-append}
 use Rattle.lif_dir.specs.declared.entries.Name.{Name}
-use Rattle.tape.specs.Names.{names_spelt}
-use Rattle.tape_jobs.proofs.Copies.{pushed}
-use Rattle.tape.proofs.Spelt.{first_unspelt, names_more, no_names, unspelt_more, with_names}
-use Rattle.tape.proofs.names.names_spelt.Goals as goal
+use Rattle.tape_arguments.specs.Names.{names_spelt}
+use Rattle.tape_volumes.proofs.Rooms.{pushed}
+use Rattle.tape_arguments.proofs.Spelt.{first_unspelt, names_more, no_names, unspelt_more, with_names}
+use Rattle.tape_arguments.proofs.names.names_spelt.Goals as goal
 
 pub returns-in-None-clause-refused : goal.returns-in-None-clause-refused
 returns-in-None-clause-refused c = (
