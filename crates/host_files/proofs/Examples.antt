@@ -2,21 +2,21 @@
 use Rattle.std.proofs.Common.{◌≡◌, ◌∷◌, [], Some, refl, sym, ap, length, arith}
 use Rattle.std.specs.Prelude.{codes}
 use Rattle.lif_model.specs.Shelf.{Shelf, image_of}
-use Rattle.host_files.specs.HostFiles.{IsContent, IsLarger}
+use Rattle.host_files.specs.HostFiles.{IsHostContent, IsLarger}
 
 -- a file of three bytes
 abbrev files : Shelf
 files = (codes "A", codes "xyz") ∷ []
 
 -- its bytes, and no fewer
-whole : IsContent (codes "A") (Some files) (codes "xyz")
+whole : IsHostContent (codes "A") (Some files) (codes "xyz")
 whole s is = let same : files ≡ s = cc in ap (image_of (codes "A")) (sym same)
 
-not_front : IsContent (codes "A") (Some files) (codes "xy") → ⊥
+not_front : IsHostContent (codes "A") (Some files) (codes "xy") → ⊥
 not_front content = let bytes = content files refl in cc
 
 -- a file that is missing has no content, also not that of an empty one
-not_empty : IsContent (codes "B") (Some files) [] → ⊥
+not_empty : IsHostContent (codes "B") (Some files) [] → ⊥
 not_empty content = let bytes = content files refl in cc
 
 -- it has more than two bytes, and not more than three

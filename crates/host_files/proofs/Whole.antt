@@ -8,7 +8,7 @@ use Rattle.std.proofs.lemmas.List.{ext_get_or, get_or_append_left, get_or-append
 use Rattle.lif_model.specs.Shelf.{Shelf, image_of}
 use Rattle.il_ports.specs.Files.{FileView, Gave, byte_at, AreBytes}
 use Rattle.il_ports.specs.NamedImages.{Bears, ImagesView}
-use Rattle.host_files.specs.HostFiles.{Reads, NoRead, OneMore, IsMeasured, IsSettled, IsWhole, IsContent, IsLarger, FoundRead}
+use Rattle.host_files.specs.HostFiles.{ReadsFrom, NoRead, OneMore, IsMeasured, IsSettledAt, IsReadToEnd, IsHostContent, IsLarger, FoundRead}
 use Rattle.host_files.specs.declared.reading.NotRead.{NotRead}
 use Rattle.host_files.specs.declared.reading.NotRead.TheVariants as not_read
 
@@ -37,7 +37,7 @@ pub record Given {F : Type 0} (view : F → FileView) (f g : F) (bytes : List �
   pub seen : (view g).seen ≡ (view f).seen
   pub front : (s : List ℕ) → (view f).seen ≡ Some s → (i : ℕ) → i < length bytes → byte_at bytes i ≡ byte_at s i
 
-pub given_by : {F : Type 0} (view : F → FileView) (f g : F) (bytes : List ℕ) → Reads view f g bytes → Given view f g bytes
+pub given_by : {F : Type 0} (view : F → FileView) (f g : F) (bytes : List ℕ) → ReadsFrom view f g bytes → Given view f g bytes
 given_by view f _ _ NoRead = record { seen = refl; front = λ s is i within. absurd (omega (arith, within)) }
 given_by view f _ _ (OneMore g h bytes buffer count reads gave) =
     let before = given_by view f g bytes reads in
@@ -54,17 +54,17 @@ measured-seen view f g count is = is.measured.rests.seen ∙ is.granted.rests.se
 measured-size : {F : Type 0} (view : F → FileView) (f g : F) (count : ℕ) → IsMeasured view f g count → (s : List ℕ) → (view f).seen ≡ Some s → length s ≡ count
 measured-size view f g count is s seen = is.measured.answer_is s (is.granted.rests.seen ∙ seen)
 
-settled-seen : {F : Type 0} (view : F → FileView) (f g : F) (count : ℕ) → IsSettled view f g count → (view g).seen ≡ (view f).seen
+settled-seen : {F : Type 0} (view : F → FileView) (f g : F) (count : ℕ) → IsSettledAt view f g count → (view g).seen ≡ (view f).seen
 settled-seen view f g count is = is.settled.answer_is.1 ∙ measured-seen view f is.measured count is.size
 
-pub whole_is : {F : Type 0} (view : F → FileView) (f g : F) (bytes s : List ℕ) → IsWhole view f g bytes → (view f).seen ≡ Some s → bytes ≡ s
+pub whole_is : {F : Type 0} (view : F → FileView) (f g : F) (bytes s : List ℕ) → IsReadToEnd view f g bytes → (view f).seen ≡ Some s → bytes ≡ s
 whole_is view f g bytes s is seen =
     let reads = given_by view is.settled g bytes is.reads in
     ext_get_or 0 bytes s (sym (measured-size view f is.size.measured (length bytes) is.size.size s seen))
     (reads.front s (settled-seen view f is.settled (length bytes) is.size ∙ seen))
 
 -- A read before the end gives a byte, if contracts see the file. So a file ends too early only if they do not see it.
-pub ends_only_unseen : {F : Type 0} (view : F → FileView) (f h k g : F) (count : ℕ) (bytes buffer s : List ℕ) → IsSettled view f h count → Reads view h k bytes → length bytes < count
+pub ends_only_unseen : {F : Type 0} (view : F → FileView) (f h k g : F) (count : ℕ) (bytes buffer s : List ℕ) → IsSettledAt view f h count → ReadsFrom view h k bytes → length bytes < count
     → Gave {E = Error} (length bytes) buffer (view k) (view g) (Ok 0) → (view f).seen ≡ Some s → ⊥
 ends_only_unseen view f h k g count bytes buffer s ready reads less gave seen =
     let given = given_by view h k bytes reads in
@@ -86,7 +86,7 @@ seen-of name shelf v bears images is =
     (known.0, known.1, sym (bears.seen images is) ∙ known.1)
 
 pub content_of : {F : Type 0} (view : F → FileView) (name : List ℕ) (shelf : Option Shelf) (f g : F) (bytes : List ℕ)
-    → Bears name shelf (image_of name) (view f) → IsWhole view f g bytes → IsContent name shelf bytes
+    → Bears name shelf (image_of name) (view f) → IsReadToEnd view f g bytes → IsHostContent name shelf bytes
 content_of view name shelf f g bytes bears whole images is =
     let known = seen-of name shelf (view f) bears images is in
     known.2 ∙ ap Some (sym (whole_is view f g bytes known.0 whole known.1))
@@ -100,7 +100,7 @@ larger_than view name most count shelf f g bears measured more images is =
 
 -- what was read of the file that a look has found
 pub content_found : {F I : Type 0} (view : F → FileView) (seen : I → ImagesView) (name : List ℕ) (most : ℕ) (looked new : I) (answer : Result (Vec ℕ Global) NotRead)
-    → FoundRead view seen name most looked new answer → IfOk answer (λ bytes. IsContent name (seen new).shelf bytes.items)
+    → FoundRead view seen name most looked new answer → IfOk answer (λ bytes. IsHostContent name (seen new).shelf bytes.items)
 content_found view seen name most looked new (Ok bytes) is = content_of view name (seen new).shelf is.file is.after bytes.items is.opened.answer_is.opened.bears is.read.0
 content_found view seen name most looked new (Err why) is = tt
 

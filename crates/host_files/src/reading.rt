@@ -4,8 +4,8 @@ ghost use Rattle.il_ports.specs.Files.{HasLock, IsClean};
 ghost use Rattle.il_ports.specs.NamedImages.{ImagesGoOn, MakesNone};
 ghost use Rattle.il_ports.specs.declared.images.Look.TheVariants as look;
 ghost use Rattle.il_ports.specs.declared.tape_file.Access.TheVariants as access;
-ghost use Rattle.host_files.specs.HostFiles.{Measures, ReadsAll, FileRead, FoundRead, HostFileRead};
-ghost use Rattle.host_files.specs.HostFiles.{IsContent, IsLarger};
+ghost use Rattle.host_files.specs.HostFiles.{Measures, ReadsCount, OpenFileRead, FoundRead, HostFileRead};
+ghost use Rattle.host_files.specs.HostFiles.{IsHostContent, IsLarger};
 ghost use Rattle.host_files.specs.declared.reading.NotRead.TheVariants as not_read;
 
 use il_ports::{Access, Images, Look, TapeFile};
@@ -58,7 +58,7 @@ fn read_all<F: TapeFile>(file: &mut F, size: usize, bytes: Vec<u8>) -> Result<Ve
     requires room { size ≤ vec_capacity bytes }
     requires held { HasLock (F.view file.old) }
     requires clean { IsClean (F.view file.old) }
-    ensures { ReadsAll F.view size file.old file.new result }
+    ensures { ReadsCount F.view size file.old file.new result }
 {
     let mut bytes = bytes;
     let mut piece = [0; PIECE];
@@ -79,7 +79,7 @@ fn read_all<F: TapeFile>(file: &mut F, size: usize, bytes: Vec<u8>) -> Result<Ve
 fn read_opened<F: TapeFile>(alloc: Global, file: &mut F, most: usize) -> Result<Vec<u8>, NotRead>
     requires sound { (F.view file.old).broken ≡ false }
     requires opened { (F.view file.old).opened access.Read }
-    ensures { FileRead F.view most file.old file.new result }
+    ensures { OpenFileRead F.view most file.old file.new result }
 {
     let Ok(count) = measure(file) else {
         return Err(NotRead::Unread);
@@ -129,7 +129,7 @@ pub fn read_file<F: TapeFile + Drop, I: Images<F>>(
     ensures unmade { MakesNone (I.view files.old) (I.view files.new) }
     ensures did { HostFileRead F.view I.view name.now most files.old files.new result }
     ensures few { IfOk result (λ bytes. length bytes.items ≤ most) }
-    ensures content { IfOk result (λ bytes. IsContent name.now (I.view files.new).shelf bytes.items) }
+    ensures content { IfOk result (λ bytes. IsHostContent name.now (I.view files.new).shelf bytes.items) }
     ensures larger { result ≡ Err not_read.TooLarge → IsLarger name.now most (I.view files.new).shelf }
 {
     match files.look(name) {

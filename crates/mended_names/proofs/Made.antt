@@ -12,7 +12,7 @@ use Rattle.lif_model.specs.Printed.{with_byte, trimmed}
 use Rattle.lif_dir.specs.Entries.{spaced}
 use Rattle.lif_dir.specs.Names.{is_letter, is_digit, is_name_byte, is_made, new_name}
 use Rattle.lif_dir.specs.declared.names.NewName.{NewName}
-use Rattle.mended_names.specs.Mending.{mended_byte, from_letter, base_of, numbered, text_of, new_name_of}
+use Rattle.mended_names.specs.Mending.{mended_byte, from_letter, mended_base, with_number, given_text, new_name_of}
 
 -- the two halves of a test
 pub left : (a b : Bool) → (a && b) ≡ true → a ≡ true
@@ -91,13 +91,13 @@ from-letter-made : (text : List ℕ) → list_all is_name_byte text ≡ true →
 from-letter-made [] all = refl
 from-letter-made (first ∷ rest) all = begun-made first rest (is_letter first) refl all
 
-pub base_made : (name : List ℕ) → is_made (base_of name) ≡ true
+pub base_made : (name : List ℕ) → is_made (mended_base name) ≡ true
 base_made name = take-made 9 (from_letter (map mended_byte (trimmed name))) (from-letter-made (map mended_byte (trimmed name)) (mended-are-name-bytes (trimmed name)))
 
-pub base_short : (name : List ℕ) → length (base_of name) ≤ 10
+pub base_short : (name : List ℕ) → length (mended_base name) ≤ 10
 base_short name = let size = length-take 10 (from_letter (map mended_byte (trimmed name))) in omega (arith, size)
 
-pub numbered_made : (base : List ℕ) (number : ℕ) → is_made base ≡ true → 0 < number → number < 10 ^ 4 → is_made (numbered base number) ≡ true
+pub numbered_made : (base : List ℕ) (number : ℕ) → is_made base ≡ true → 0 < number → number < 10 ^ 4 → is_made (with_number base number) ≡ true
 numbered_made base number made some few =
     let short : length (decimal number) ≤ 4 = length-decimal-le 4 number (omega arith) few (omega arith) in
     let front : 10 - length (decimal number) ≡ suc (9 - length (decimal number)) = omega arith in
@@ -105,7 +105,7 @@ numbered_made base number made some few =
     (ap (λ (n : ℕ). is_made (take n base)) front ∙ take-made (9 - length (decimal number)) base made)
     (decimal-are-name-bytes number some (omega arith))
 
-pub numbered_short : (base : List ℕ) (number : ℕ) → 0 < number → number < 10 ^ 4 → length (numbered base number) ≤ 10
+pub numbered_short : (base : List ℕ) (number : ℕ) → 0 < number → number < 10 ^ 4 → length (with_number base number) ≤ 10
 numbered_short base number some few =
     let short : length (decimal number) ≤ 4 = length-decimal-le 4 number (omega arith) few (omega arith) in
     let size = length-append (take (10 - length (decimal number)) base) (decimal number) in
@@ -140,7 +140,7 @@ fits text made short = let some = made-has-bytes text made in grind (arith, nat_
 pub record HasName (text : List ℕ) : Type 0 where
   pub new : NewName
   pub is : new_name_of text ≡ Some new
-  pub same : text_of new ≡ text
+  pub same : given_text new ≡ text
 
 pub named_by : (text : List ℕ) → is_made text ≡ true → length text ≤ 10 → HasName text
 named_by text made short =

@@ -6,7 +6,7 @@ use Rattle.std.proofs.Math.Nat.{min_comm}
 use Rattle.std.proofs.lemmas.List.{drop_more, take_min}
 use Rattle.lif_dir.specs.declared.entries.Name.{Name}
 use Rattle.lif_dir.specs.declared.names.NewName.{NewName}
-use Rattle.mended_names.specs.Mending.{mended_byte, mended_name, mended_from, numbered, last_number}
+use Rattle.mended_names.specs.Mending.{mended_byte, mended_name, mended_from, with_number, last_number}
 
 -- the first bytes of two texts, of which the first is shorter
 pub take-both : (n room : ℕ) (front text : List ℕ) → length front + room ≡ n → take n (front ++ map mended_byte text) ≡ front ++ map mended_byte (take room text)
@@ -28,16 +28,16 @@ range-more : (a n k : ℕ) → n ≡ suc k → range_with_len a n ≡ a ∷ rang
 range-more a n k is = ap (range_with_len a) is
 
 -- what is found from a number on
-pub find_here : (p : List ℕ → Bool) (base : List ℕ) (a n k : ℕ) → n ≡ suc k → p (numbered base a) ≡ true → find p (map (numbered base) (range_with_len a n)) ≡ Some (numbered base a)
+pub find_here : (p : List ℕ → Bool) (base : List ℕ) (a n k : ℕ) → n ≡ suc k → p (with_number base a) ≡ true → find p (map (with_number base) (range_with_len a n)) ≡ Some (with_number base a)
 find_here p base a n k is so =
-    ap (λ (l : List ℕ). find p (map (numbered base) l)) (range-more a n k is)
-    ∙ ap (λ (b : Bool). cond b (Some (numbered base a)) (find p (map (numbered base) (range_with_len (a + 1) k)))) so
+    ap (λ (l : List ℕ). find p (map (with_number base) l)) (range-more a n k is)
+    ∙ ap (λ (b : Bool). cond b (Some (with_number base a)) (find p (map (with_number base) (range_with_len (a + 1) k)))) so
 
-pub find_after : (p : List ℕ → Bool) (base : List ℕ) (a n k : ℕ) → n ≡ suc k → p (numbered base a) ≡ false
-    → find p (map (numbered base) (range_with_len a n)) ≡ find p (map (numbered base) (range_with_len (a + 1) k))
+pub find_after : (p : List ℕ → Bool) (base : List ℕ) (a n k : ℕ) → n ≡ suc k → p (with_number base a) ≡ false
+    → find p (map (with_number base) (range_with_len a n)) ≡ find p (map (with_number base) (range_with_len (a + 1) k))
 find_after p base a n k is so =
-    ap (λ (l : List ℕ). find p (map (numbered base) l)) (range-more a n k is)
-    ∙ ap (λ (b : Bool). cond b (Some (numbered base a)) (find p (map (numbered base) (range_with_len (a + 1) k)))) so
+    ap (λ (l : List ℕ). find p (map (with_number base) l)) (range-more a n k is)
+    ∙ ap (λ (b : Bool). cond b (Some (with_number base a)) (find p (map (with_number base) (range_with_len (a + 1) k)))) so
 
 -- one name more
 pub name_more : (own given : List (Option NewName)) (names : List Name) (i : ℕ) (d : Name) → i < length names

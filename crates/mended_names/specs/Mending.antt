@@ -26,33 +26,33 @@ abbrev pub from_letter : List ℕ → List ℕ
 from_letter text = missing_letter text ++ text
 
 -- What the bytes of a name are mended to, if no other file has that name. The spaces at the end are no part of the name.
-abbrev pub base_of : List ℕ → List ℕ
-base_of name = take 10 (from_letter (map mended_byte (trimmed name)))
+abbrev pub mended_base : List ℕ → List ℕ
+mended_base name = take 10 (from_letter (map mended_byte (trimmed name)))
 
 -- the same with a number at its end; both have ten bytes at most
-abbrev pub numbered : (base : List ℕ) → ℕ → List ℕ
-numbered base number = take (10 - length (decimal number)) base ++ decimal number
+abbrev pub with_number : (base : List ℕ) → ℕ → List ℕ
+with_number base number = take (10 - length (decimal number)) base ++ decimal number
 
 -- the largest number
 unfoldable pub last_number : ℕ
 last_number = 9999
 
 -- a name that can be made, without the spaces at its end
-abbrev pub text_of : NewName → List ℕ
-text_of new = trimmed (name_bytes (made_name new))
+abbrev pub given_text : NewName → List ℕ
+given_text new = trimmed (name_bytes (made_name new))
 
 -- whether a file that has this name, or none, has that text as its name
-abbrev pub is_named : (text : List ℕ) → Option NewName → Bool
-is_named text None = false
-is_named text (Some new) = bytes_eq text (text_of new)
+abbrev pub has_text : (text : List ℕ) → Option NewName → Bool
+has_text text None = false
+has_text text (Some new) = bytes_eq text (given_text new)
 
 -- whether the text is neither the name of the redo file nor that of one of the others
 abbrev pub is_free : (others : List (Option NewName)) → (text : List ℕ) → Bool
-is_free others text = not (bytes_eq text (trimmed redo_name)) && not (list_any (is_named text) others)
+is_free others text = not (bytes_eq text (trimmed redo_name)) && not (list_any (has_text text) others)
 
 -- the base with the first number, from 2 up to the largest, for which that is free
 abbrev pub first_numbered : (others : List (Option NewName)) → (base : List ℕ) → Option (List ℕ)
-first_numbered others base = find (is_free others) (map (numbered base) (range_with_len 2 (last_number - 1)))
+first_numbered others base = find (is_free others) (map (with_number base) (range_with_len 2 (last_number - 1)))
 
 -- the base if it is free
 abbrev pub first_free : (others : List (Option NewName)) → (base : List ℕ) → Option (List ℕ)
@@ -64,7 +64,7 @@ new_name_of text = option_and_then new_name (name_of_bytes text)
 
 -- the name of a file that is mended, if the others have these
 abbrev pub mended : (others : List (Option NewName)) → Name → Option NewName
-mended others name = option_and_then new_name_of (first_free others (base_of (name_bytes name)))
+mended others name = option_and_then new_name_of (first_free others (mended_base (name_bytes name)))
 
 -- the name of a file: its own if that can be made
 abbrev pub mended_name : (others : List (Option NewName)) → Name → Option NewName

@@ -4,7 +4,7 @@ ghost use Rattle.std.specs.List.{list_any};
 ghost use Rattle.arrayvec.specs.ArrayVec.{array_vec_len};
 ghost use Rattle.lif_dir.specs.Entries.{name_bytes};
 ghost use Rattle.lif_dir.specs.Names.{new_name};
-ghost use Rattle.mended_names.specs.Mending.{mended_byte, missing_letter, base_of, numbered, is_named, is_free};
+ghost use Rattle.mended_names.specs.Mending.{mended_byte, missing_letter, mended_base, with_number, has_text, is_free};
 ghost use Rattle.mended_names.specs.Mending.{first_numbered, first_free, new_name_of, mended};
 ghost use Rattle.mended_names.specs.Mending.{mended_name, mended_from, names_for};
 
@@ -67,8 +67,8 @@ fn append_mended(base: &mut Text, text: &[u8])
 }
 
 /// What a name is mended to, if no other file has that name.
-fn base_of(name: &Name) -> Text
-    ensures { result.items ≡ base_of (name_bytes name.now) }
+fn mended_base(name: &Name) -> Text
+    ensures { result.items ≡ mended_base (name_bytes name.now) }
 {
     let bytes = name.bytes();
     let text = without_end_spaces(&bytes);
@@ -87,8 +87,8 @@ fn append(text: &mut Text, bytes: &[u8])
 }
 
 /// The base with a number at its end. The last bytes of the base make room for it.
-fn numbered(base: &[u8], number: u16) -> Text
-    ensures { result.items ≡ numbered base.now number }
+fn with_number(base: &[u8], number: u16) -> Text
+    ensures { result.items ≡ with_number base.now number }
 {
     let mut buffer = Buffer::new();
     let digits = buffer.format(number).as_bytes();
@@ -100,8 +100,8 @@ fn numbered(base: &[u8], number: u16) -> Text
 }
 
 /// Whether a file that has this name, or none, has that text as its name.
-fn is_named(text: &[u8], new: Option<NewName>) -> bool
-    ensures { result ≡ is_named text.now new }
+fn has_text(text: &[u8], new: Option<NewName>) -> bool
+    ensures { result ≡ has_text text.now new }
 {
     match new {
         Some(new) => text == without_end_spaces(&new.name().bytes()),
@@ -111,10 +111,10 @@ fn is_named(text: &[u8], new: Option<NewName>) -> bool
 
 /// Whether the text is one of these names that can be made.
 fn is_made_name(text: &[u8], names: &[Name]) -> bool
-    ensures { result ≡ list_any (is_named text.now) (map new_name names.now) }
+    ensures { result ≡ list_any (has_text text.now) (map new_name names.now) }
 {
     'names: for name in names {
-        if is_named(text, NewName::of(name)) {
+        if has_text(text, NewName::of(name)) {
             return true;
         }
     }
@@ -123,9 +123,9 @@ fn is_made_name(text: &[u8], names: &[Name]) -> bool
 
 /// Whether the text is one of the names that are given.
 fn is_given(text: &[u8], given: &[Option<NewName>]) -> bool
-    ensures { result ≡ list_any (is_named text.now) given.now }
+    ensures { result ≡ list_any (has_text text.now) given.now }
 {
-    given.iter().any(|new| is_named(text, *new))
+    given.iter().any(|new| has_text(text, *new))
 }
 
 /// Whether the text is neither the name of the redo file, nor one of the names that can be made, nor one of those that
@@ -143,7 +143,7 @@ fn first_numbered(names: &[Name], given: &[Option<NewName>], base: &[u8]) -> Opt
         ≡ first_numbered (map new_name names.now ++ given.now) base.now }
 {
     'numbers: for number in 2..=LAST_NUMBER {
-        let text = numbered(base, number);
+        let text = with_number(base, number);
         if is_free(names, given, &text) {
             return Some(text);
         }
@@ -177,7 +177,7 @@ fn new_name_of(text: &[u8]) -> Option<NewName>
 fn mended(names: &[Name], given: &[Option<NewName>], name: &Name) -> Option<NewName>
     ensures { result ≡ mended (map new_name names.now ++ given.now) name.now }
 {
-    match first_free(names, given, base_of(name)) {
+    match first_free(names, given, mended_base(name)) {
         Some(text) => new_name_of(&text),
         None => None,
     }

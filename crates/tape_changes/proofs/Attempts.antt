@@ -1,21 +1,19 @@
 -- What an attempt does to the volume.
-use Rattle.std.proofs.Common.{◌≡◌, ◌≢◌, ◌⊎◌, ◌∙◌, ℕ, Bool, true, false, List, Option, Some, None, inl, inr, ⊎_elim, refl, sym, ap, subst}
+use Rattle.std.proofs.Common.{◌≡◌, ◌⊎◌, ◌∙◌, ℕ, Bool, true, false, List, Option, Some, None, inl, inr, ⊎_elim, refl, sym, ap, subst}
 use Rattle.std.specs.Prelude.{is_some, option_map, if◌then◌else◌}
 use Rattle.lif_model.specs.Apply.{VolumeCommand, apply, next_unless, refusal_of}
 use Rattle.lif_model.specs.Tape.{Tape}
 use Rattle.lif_model.specs.Volume.{Volume}
 use Rattle.lif_model.specs.declared.refusal.Refusal.{Refusal}
 use Rattle.lif_model.specs.declared.refusal.Refusal.TheVariants as refusal
-use Rattle.il_script.specs.declared.reply.Code.TheVariants as code
 use Rattle.il_script.specs.declared.reply.Reply.{Reply}
 use Rattle.il_script.specs.declared.reply.Reply.TheVariants as reply
 use Rattle.tape_volumes.specs.Changes.{change_command}
 use Rattle.tape_volumes.specs.Volumes.{CommandDid, DoneWhole, Mounted, OwnsGate, StopLeaves, reply_by, volume_seen, volume_shown}
 use Rattle.tape_volumes.specs.declared.change.Change.{Change}
 use Rattle.tape_changes.specs.declared.changing.Step.{Step}
-use Rattle.tape_changes.specs.declared.changing.Next.{Next}
 use Rattle.tape_changes.specs.declared.changing.Next.TheVariants as next
-use Rattle.tape_changes.specs.Changing.{Attempt, AttemptLeaves, NextBy, Output, StepTried, ThenDid, asked_then, attempt_of, attempted, says_exists, with_instead}
+use Rattle.tape_changes.specs.Changing.{Attempt, AttemptLeaves, NextBy, Output, StepTried, ThenDid, attempt_of, attempted, says_exists, with_instead}
 
 pub seen_of : (w : Option Tape) (v : Option Volume) → volume_shown w ≡ Some v → volume_seen w ≡ v
 seen_of None v e = cc

@@ -1,6 +1,6 @@
 -- How the steps of a job add up.
-use Rattle.std.proofs.Common.{◌≡◌, ◌⊎◌, inl, inr, ⊎_elim, ◌≤◌, ◌++◌, ◌∙◌, ℕ, zero, suc, Bool, true, false, List, [], ◌∷◌, Option, Some, None, refl, sym, ap, subst, append_assoc, arith}
-use Rattle.std.specs.Prelude.{◌<◌, ◌+◌, OnErr, Result, Ok, Err, is_ok, is_some, drop, get_or, length, take, if◌then◌else◌}
+use Rattle.std.proofs.Common.{◌≡◌, ◌⊎◌, inl, inr, ⊎_elim, ◌≤◌, ◌++◌, ◌∙◌, ℕ, zero, suc, Bool, true, false, List, [], ◌∷◌, Option, Some, refl, sym, ap, subst, append_assoc, arith}
+use Rattle.std.specs.Prelude.{◌<◌, ◌+◌, is_some, drop, get_or, length, take}
 use Rattle.std.proofs.lemmas.Grind.{fold-append}
 use Rattle.std.proofs.lemmas.List.{append-nil, drop_more, length-map, map_more, take-map}
 use Rattle.lif_model.specs.Apply.{VolumeCommand}

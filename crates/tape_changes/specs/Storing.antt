@@ -38,8 +38,8 @@ incoming_batch f =
     volume.Batch (part.Purge (incoming_name f) ∷ part.Store (incoming_name f) f.kind f.field f.bytes.items ∷ [])
 
 -- It is stored, if there is none of its name. If `over` is set, it takes the place of one of its name.
-abbrev pub storing : (over : Bool) → Incoming → Attempt
-storing over f = record { command = incoming_store f; instead = if over then Some (incoming_batch f) else None }
+abbrev pub store_attempt : (over : Bool) → Incoming → Attempt
+store_attempt over f = record { command = incoming_store f; instead = if over then Some (incoming_batch f) else None }
 
 -- ---- what is said of it
 
@@ -56,7 +56,7 @@ incoming_line false f = named_line (name_bytes f.from) (incoming_name f)
 -- the step that stores it
 abbrev pub incoming_step : (over quiet : Bool) → Incoming → SaidStep
 incoming_step over quiet f =
-    record { attempt = storing over f; subject = printed (incoming_name f); line = incoming_line quiet f }
+    record { attempt = store_attempt over f; subject = printed (incoming_name f); line = incoming_line quiet f }
 
 -- one step for each file
 abbrev pub incoming_steps : (over quiet : Bool) → List Incoming → List SaidStep
@@ -78,5 +78,5 @@ IsBatchFor true file batch = option_map parts_of batch ≡ Some (replacing_parts
 IsBatchFor false file batch = batch ≡ None
 
 -- its change can be asked for
-abbrev pub IsReady : Ready → Type 0
-IsReady ready = IsFormedChange (store_change ready.file)
+abbrev pub IsReadyFile : Ready → Type 0
+IsReadyFile ready = IsFormedChange (store_change ready.file)

@@ -1,11 +1,11 @@
 //! Files that are stored, each by one step.
-ghost use Rattle.std.specs.Prelude.{◌≡◌, ◌≤◌, IfOk, All, length, map};
+ghost use Rattle.std.specs.Prelude.{◌≡◌, IfOk, All, length, map};
 ghost use Rattle.lif_dir.specs.Entries.{name_bytes};
 ghost use Rattle.lif_model.specs.Printed.{printed};
 ghost use Rattle.tape_changes.specs.Changing.{AreFormed, IsFormedStep, said};
 ghost use Rattle.tape_changes.specs.Replacing.{store_change};
-ghost use Rattle.tape_changes.specs.Storing.{IsBatchFor, IsReady, IsStorable, incoming_line, incoming_step, incoming_steps};
-ghost use Rattle.tape_changes.specs.Storing.{incoming_store, named_line, ready_step};
+ghost use Rattle.tape_changes.specs.Storing.{IsBatchFor, IsReadyFile, IsStorable, incoming_line, incoming_step};
+ghost use Rattle.tape_changes.specs.Storing.{incoming_steps, incoming_store, named_line, ready_step};
 ghost use Rattle.tape_volumes.specs.Changes.{IsFormedChange, change_command};
 
 use crate::changing::Step;
@@ -119,7 +119,7 @@ fn make_ready<'a>(
 ) -> Result<Ready<'a>, AllocError>
     requires storable { IsStorable incoming.now }
     ensures step { IfOk result (λ ready. ready_step ready ≡ incoming_step over quiet incoming.now) }
-    ensures ready { IfOk result IsReady }
+    ensures ready { IfOk result IsReadyFile }
 {
     let file = file_of(incoming);
     let batch = batch_for(alloc, over, &file)?;
@@ -142,8 +142,9 @@ pub fn ready_files<'a>(
     files: &'a [Incoming],
 ) -> Result<Vec<Ready<'a>>, AllocError>
     requires storable { All IsStorable files.now }
+    ensures count { IfOk result (λ ready. length ready.items ≡ length files.now) }
     ensures steps { IfOk result (λ ready. map ready_step ready.items ≡ incoming_steps over quiet files.now) }
-    ensures ready { IfOk result (λ ready. All IsReady ready.items) }
+    ensures ready { IfOk result (λ ready. All IsReadyFile ready.items) }
 {
     let mut all = Vec::with_capacity(alloc, files.len())?;
     'files: for incoming in files {
@@ -154,7 +155,7 @@ pub fn ready_files<'a>(
 
 /// The step that stores a file.
 fn step_of<'a>(ready: &'a Ready<'a>) -> Step<'a>
-    requires ready { IsReady ready.now }
+    requires ready { IsReadyFile ready.now }
     ensures said { said result ≡ ready_step ready.now }
     ensures formed { IsFormedStep result }
 {
@@ -168,7 +169,8 @@ fn step_of<'a>(ready: &'a Ready<'a>) -> Step<'a>
 
 /// The steps that store the files, in their order. The only error is want of memory.
 pub fn steps_of<'a>(alloc: Global, files: &'a [Ready<'a>]) -> Result<Vec<Step<'a>>, AllocError>
-    requires ready { All IsReady files.now }
+    requires ready { All IsReadyFile files.now }
+    ensures count { IfOk result (λ steps. length steps.items ≡ length files.now) }
     ensures said { IfOk result (λ steps. map said steps.items ≡ map ready_step files.now) }
     ensures formed { IfOk result (λ steps. AreFormed steps.items) }
 {

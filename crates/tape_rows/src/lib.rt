@@ -16,4 +16,6 @@ mod listings;
 #[cfg(test)]
 mod pages;
 #[cfg(test)]
+mod stored;
+#[cfg(test)]
 mod words;

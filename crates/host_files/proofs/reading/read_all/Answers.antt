@@ -2,12 +2,12 @@ use Rattle.std.proofs.Common.{rules, ◌≡◌, ◌≤◌, ◌++◌, ℕ, List, 
 use Rattle.std.proofs.lemmas.List.{take-append-le}
 use Rattle.std.specs.declared.io.Error.{Error}
 use Rattle.il_ports.specs.Files.{Gave}
-use Rattle.host_files.specs.HostFiles.{Reads, NoRead, OneMore, NotGiven, Ended}
+use Rattle.host_files.specs.HostFiles.{ReadsFrom, NoRead, OneMore, NotGiven, Ended}
 use Rattle.host_files.proofs.reading.read_all.Goals as goal
 
 pub pieces-init : goal.pieces-init
 pieces-init g c = record {
-  reads = subst (λ (l : List ℕ). Reads g.F.TapeFile.view c.args.file.now c.args.file.now l) (sym c.requires.empty) NoRead;
+  reads = subst (λ (l : List ℕ). ReadsFrom g.F.TapeFile.view c.args.file.now c.args.file.now l) (sym c.requires.empty) NoRead;
   few = search rules;
   room = search rules;
   piece = search rules;
@@ -36,7 +36,7 @@ pieces-preserved g c =
     let piece = take-append-le c.in-Ok.count c.read_at.new.into (drop c.min-room.result c.pieces.piece) few in
     let items : c.extend_from_slice.new.self.items ≡ c.pieces.bytes.items ++ take c.in-Ok.count c.read_at.new.into = search rules in
     record {
-      reads = subst (λ (l : List ℕ). Reads g.F.TapeFile.view c.args.file.now c.read_at.new.self l) (sym items)
+      reads = subst (λ (l : List ℕ). ReadsFrom g.F.TapeFile.view c.args.file.now c.read_at.new.self l) (sym items)
           (OneMore c.pieces.file c.read_at.new.self c.pieces.bytes.items c.read_at.new.into c.in-Ok.count c.pieces.invariant.reads gave);
       few = search rules;
       room = search rules;

@@ -1,12 +1,12 @@
 use Rattle.std.proofs.Common.{◌≡◌, ◌≤◌, ◌-◌, length}
 use Rattle.std.specs.Vec.{vec_capacity}
 use Rattle.il_ports.specs.Files.{HasLock, IsClean}
-use Rattle.host_files.specs.HostFiles.{Reads}
+use Rattle.host_files.specs.HostFiles.{ReadsFrom}
 use Rattle.host_files.proofs.reading.read_all.Given as goal
 
 abbrev pub invariant-pieces : goal.invariant-pieces
 invariant-pieces g l = record {
-  reads : Reads g.F.TapeFile.view l.fn.file l.file l.bytes.items;
+  reads : ReadsFrom g.F.TapeFile.view l.fn.file l.file l.bytes.items;
   few : length l.bytes.items ≤ l.size;
   room : l.size ≤ vec_capacity l.bytes;
   piece : length l.piece ≡ 4096;

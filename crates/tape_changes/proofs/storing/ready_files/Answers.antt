@@ -1,7 +1,7 @@
 use Rattle.std.proofs.Common.{◌≡◌, ◌++◌, ◌∷◌, ◌∙◌, List, [], All, ap, arith, length, length-append, map, rules, subst, sym}
 use Rattle.std.proofs.lemmas.List.Elements.{All-push}
 use Rattle.tape_changes.specs.declared.storing.Ready.{Ready}
-use Rattle.tape_changes.specs.Storing.{IsReady, incoming_step, ready_step}
+use Rattle.tape_changes.specs.Storing.{IsReadyFile, incoming_step, ready_step}
 use Rattle.tape_changes.proofs.Mapped.{mapped_more}
 use Rattle.tape_volumes.proofs.Rooms.{pushed}
 use Rattle.tape_changes.proofs.storing.ready_files.Goals as goal
@@ -17,7 +17,7 @@ files-preserved c =
     record {
       steps = ap (λ (l : List Ready). map ready_step l) more
           ∙ mapped_more ready_step (incoming_step c.args.over c.args.quiet) c.files.all.items c.args.files.now c.files.incoming-index made c.incoming-item.result c.files-test.true c.incoming-item.is c.in_ok-make_ready.ensures.step held.steps;
-      ready = subst (All IsReady) (sym more) (All-push IsReady c.files.all.items made held.ready c.in_ok-make_ready.ensures.ready);
+      ready = subst (All IsReadyFile) (sym more) (All-push IsReadyFile c.files.all.items made held.ready c.in_ok-make_ready.ensures.ready);
       room = omega (arith, long, both, count);
       space = search rules;
     }
