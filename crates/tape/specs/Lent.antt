@@ -1,8 +1,8 @@
--- The drives and the folders that a job uses.
-use Rattle.std.specs.Prelude.{ℕ, length, Option, Some, None, option_and_then, option_map}
+-- The drives, the folders and the files of the host that a job uses.
+use Rattle.std.specs.Prelude.{◌≡◌, ℕ, length, Option, Some, None, option_and_then, option_map}
 use Rattle.tape_arguments.specs.Volumes.{label_spelt, slots_spelt}
 use Rattle.tape_arguments.specs.Names.{name_spelt, names_spelt, new_name_spelt}
-use Rattle.tape_words.specs.Asked.{Wanted, Dir, Out, Get, Raw, Free, Map, Why, Diff, Purge, Rename, Adopt, Upgrade, New, Put, Set}
+use Rattle.tape_words.specs.Asked.{Wanted, Dir, Out, Get, Raw, Free, Map, Why, Diff, Purge, Rename, Adopt, Upgrade, New, Put, Set, In}
 
 -- one, if the names are spelt that a job needs before it opens an image
 abbrev pub one_if : {X : Type 0} → Option X → ℕ
@@ -27,6 +27,7 @@ drives_for (Some (Adopt image)) = 1
 drives_for (Some (Upgrade image)) = 1
 drives_for (Some (Put quiet image name)) = one_if (new_name_spelt name)
 drives_for (Some (Set quiet image name)) = one_if (new_name_spelt name)
+drives_for (Some (In over mend quiet image paths)) = 1
 drives_for _ = 0
 
 -- how many drives that only read
@@ -44,3 +45,8 @@ makers_for _ = 0
 abbrev pub folders_for : Option Wanted → ℕ
 folders_for (Some (Out image folder names)) = one_if (names_spelt names)
 folders_for _ = 0
+
+-- files of the host are read only for the job `in`
+abbrev pub HostFor : {I : Type 0} → Option Wanted → (before now : I) → Type 0
+HostFor (Some (In over mend quiet image paths)) before now = Unit {0}
+HostFor asked before now = now ≡ before

@@ -12,3 +12,4 @@ pub mod Lent
 pub mod Changes
 pub mod New
 pub mod Texts
+pub mod Incoming

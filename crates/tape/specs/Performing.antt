@@ -1,7 +1,7 @@
 -- What the program does by its arguments.
 use Rattle.std.specs.Prelude.{◌≡◌, ◌⊎◌, ℕ, true, false, List, map, Option, Some, None, Result, Ok, Err, String, Vec, codes, string_bytes}
 use Rattle.std.specs.declared.alloc.Global.{Global}
-use Rattle.tape_words.specs.Asked.{Wanted, Dir, Out, Get, Raw, Free, Map, Why, Diff, Purge, Rename, Adopt, Upgrade, New, Put, Set, Help, Version, arguments_in}
+use Rattle.tape_words.specs.Asked.{Wanted, Dir, Out, Get, Raw, Free, Map, Why, Diff, Purge, Rename, Adopt, Upgrade, New, Put, Set, In, Help, Version, arguments_in}
 use Rattle.tape_drives.specs.Lending.{IsUnused}
 use Rattle.tape_jobs.specs.declared.listing.Style.TheVariants as style
 use Rattle.tape_jobs.specs.declared.reading.Part.TheVariants.{Bytes, Lines}
@@ -11,6 +11,7 @@ use Rattle.tape.specs.Changes.{AdoptsVolume, PurgesFiles, RenamesFile, UpgradesV
 use Rattle.tape.specs.Copies.{CopiesFiles, FolderSight}
 use Rattle.tape.specs.Files.{ReadsNamedFile}
 use Rattle.tape_arguments.specs.Names.{name_spelt}
+use Rattle.tape.specs.Incoming.{HostSight, TakesFiles}
 use Rattle.tape.specs.New.{UsesNoMaker, MakerSight, MakesImage}
 use Rattle.tape.specs.Texts.{Input, StoresText}
 use Rattle.tape_volumes.specs.Outputs.{LacksMemory, PrintsNothing, PrintsWith, WritesError, Written}
@@ -32,8 +33,8 @@ wanted_in (Ok words) = arguments_in (map string_bytes words.items)
 wanted_in (Err e) = None
 
 -- What is done if this is asked for, over drives, drives that only read, drives in memory, folders, drives with a new
--- image, and standard input.
-module _ {M N O F Q : Type 0} (drives : DriveSight M) (readers : DriveSight N) (memory : MediumSight O) (folders : FolderSight F) (makers : MakerSight Q) (from left : Input) where
+-- image, files of the host, and standard input.
+module _ {M N O F Q H I : Type 0} (drives : DriveSight M) (readers : DriveSight N) (memory : MediumSight O) (folders : FolderSight F) (makers : MakerSight Q) (host : HostSight H I) (from left : Input) where
   abbrev pub DoesAsked : Option Wanted → (status : ℕ) → Written → Written → Type 0
   DoesAsked None status old now = RefusesArguments status old now
   DoesAsked (Some (Dir all csv images)) status old now = DirDone drives csv all images status old now
@@ -52,6 +53,7 @@ module _ {M N O F Q : Type 0} (drives : DriveSight M) (readers : DriveSight N) (
   DoesAsked (Some (New disc small image label slots)) status old now = MakesImage makers disc small image label slots status old now
   DoesAsked (Some (Put quiet image name)) status old now = StoresText drives false quiet image name from left status old now
   DoesAsked (Some (Set quiet image name)) status old now = StoresText drives true quiet image name from left status old now
+  DoesAsked (Some (In over mend quiet image paths)) status old now = TakesFiles host drives over mend quiet image paths status old now
   DoesAsked (Some (Help topic)) status old now = Explains status old now
   DoesAsked (Some Version) status old now = PrintsWith 0 (codes "tape 1.0\n") status old now
 

@@ -7,6 +7,7 @@ mod diff;
 mod files;
 mod hosted;
 mod images;
+mod incoming;
 mod mounted;
 mod new;
 mod performing;
@@ -22,6 +23,7 @@ use performing::perform;
 use std::io::IsTerminal;
 use std::process::ExitCode;
 use std::{env, io};
+use system_files::SystemImages;
 use tape_drives::{SystemDrives, SystemFolders, SystemMakers, SystemReaders};
 use tape_jobs::Progress;
 
@@ -38,6 +40,7 @@ fn main(rt: HostRuntime) -> ExitCode {
     let mut readers = SystemReaders::new(&rt);
     let mut folders = SystemFolders::new(&rt);
     let mut makers = SystemMakers::new(&rt);
+    let mut host = SystemImages::new(&rt);
     let progress = Progress {
         terminal: rt.stderr().is_terminal().then(|| StdSink::new(rt.stderr())),
     };
@@ -49,6 +52,7 @@ fn main(rt: HostRuntime) -> ExitCode {
         &mut readers,
         &mut folders,
         &mut makers,
+        &mut host,
         &mut input,
         progress,
         out,

@@ -6,7 +6,8 @@ ghost use Rattle.tape_words.specs.Asked.{job_asked, arguments_in};
 ghost use Rattle.tape_volumes.specs.Messages.{WritesMessage, memory_line, unread_line};
 ghost use Rattle.tape_volumes.specs.Outputs.{written};
 ghost use Rattle.tape.specs.Copies.{folder_sight};
-ghost use Rattle.tape.specs.Lent.{drives_for, folders_for, makers_for, readers_for};
+ghost use Rattle.tape.specs.Incoming.{host_sight};
+ghost use Rattle.tape.specs.Lent.{HostFor, drives_for, folders_for, makers_for, readers_for};
 ghost use Rattle.tape_drives.specs.Lending.{Uses};
 ghost use Rattle.tape.specs.New.{maker_sight};
 ghost use Rattle.tape.specs.Performing.{DoesAsked, Explains, PerformsAsked, wanted_in};
@@ -17,13 +18,14 @@ use crate::changes::{adopt_volume, purge_files, rename_file, upgrade_volume};
 use crate::copies::copy_files;
 use crate::diff::compare_images;
 use crate::files::read_file;
+use crate::incoming::take_files;
 use crate::new::new_image;
 use crate::put::store_text;
 use crate::several::dir_images;
 use crate::showing::show_image;
 use crate::why::why_image;
 use exits::{BAD_WORDS, unread_status};
-use il_ports::{Medium, MemoryMedium, Sink, Source};
+use il_ports::{Images, Medium, MemoryMedium, Sink, Source, TapeFile};
 use std::alloc::{AllocError, Global};
 use std::io;
 use tape_drives::{Drives, Folders, Makers};
@@ -90,6 +92,8 @@ fn do_job<
     G: Folders<F>,
     O: Medium + Drop,
     W: Makers<O>,
+    H: TapeFile + Drop,
+    I: Images<H>,
     S: Source,
     P: Sink + Drop,
     K: Sink + Drop,
@@ -101,6 +105,7 @@ fn do_job<
     readers: &mut R,
     folders: &mut G,
     makers: &mut W,
+    host: &mut I,
     input: &mut S,
     progress: Progress<P>,
     out: K,
@@ -115,6 +120,7 @@ fn do_job<
         (medium_sight ⟦<MemoryMedium as Medium>⟧.view ⟦<MemoryMedium as Medium>⟧.refuses)
         (folder_sight F.view (G.lent folders.old) (G.lent folders.new))
         (maker_sight O.view (W.making makers.old) (W.making makers.new))
+        (host_sight H.view I.view host.old host.new)
         (input_of (S.left input.old) (S.faults input.old)) (input_of (S.left input.new) (S.faults input.new)) (Some (job_asked job.entry)) result.0
         (written (K.written out) (K.faults out) (E.written error.old) (E.faults error.old))
         (written (K.written result.1) (K.faults result.1) (E.written error.new) (E.faults error.new)) }
@@ -122,6 +128,7 @@ fn do_job<
     ensures readers { Uses (readers_for (Some (job_asked job.entry))) (R.lent readers.old) (R.lent readers.new) }
     ensures folders { Uses (folders_for (Some (job_asked job.entry))) (G.lent folders.old) (G.lent folders.new) }
     ensures makers { Uses (makers_for (Some (job_asked job.entry))) (W.making makers.old).lending (W.making makers.new).lending }
+    ensures host { HostFor (Some (job_asked job.entry)) host.old host.new }
 {
     let mut out = out;
     match job {
@@ -168,6 +175,15 @@ fn do_job<
         Job::Set { quiet, image, name } => store_text(
             alloc, drives, input, true, quiet, image, name, out, error,
         ),
+        Job::In {
+            over,
+            mend,
+            quiet,
+            image,
+            files,
+        } => take_files(
+            alloc, drives, host, over, mend, quiet, image, files, out, error,
+        ),
         Job::Help { topic } => (explain(alloc, topic, &mut out, error), out),
         Job::Version => (print(0, VERSION_TEXT.as_bytes(), &mut out, error), out),
     }
@@ -183,6 +199,8 @@ fn perform_words<
     G: Folders<F>,
     O: Medium + Drop,
     W: Makers<O>,
+    H: TapeFile + Drop,
+    I: Images<H>,
     S: Source,
     P: Sink + Drop,
     K: Sink + Drop,
@@ -194,6 +212,7 @@ fn perform_words<
     readers: &mut R,
     folders: &mut G,
     makers: &mut W,
+    host: &mut I,
     input: &mut S,
     progress: Progress<P>,
     out: K,
@@ -208,6 +227,7 @@ fn perform_words<
         (medium_sight ⟦<MemoryMedium as Medium>⟧.view ⟦<MemoryMedium as Medium>⟧.refuses)
         (folder_sight F.view (G.lent folders.old) (G.lent folders.new))
         (maker_sight O.view (W.making makers.old) (W.making makers.new))
+        (host_sight H.view I.view host.old host.new)
         (input_of (S.left input.old) (S.faults input.old)) (input_of (S.left input.new) (S.faults input.new)) (arguments_in (map string_bytes words.now)) result.0
         (written (K.written out) (K.faults out) (E.written error.old) (E.faults error.old))
         (written (K.written result.1) (K.faults result.1) (E.written error.new) (E.faults error.new)) }
@@ -215,11 +235,12 @@ fn perform_words<
     ensures readers { Uses (readers_for (arguments_in (map string_bytes words.now))) (R.lent readers.old) (R.lent readers.new) }
     ensures folders { Uses (folders_for (arguments_in (map string_bytes words.now))) (G.lent folders.old) (G.lent folders.new) }
     ensures makers { Uses (makers_for (arguments_in (map string_bytes words.now))) (W.making makers.old).lending (W.making makers.new).lending }
+    ensures host { HostFor (arguments_in (map string_bytes words.now)) host.old host.new }
 {
     match parse(alloc, words) {
         Ok(matches) => match job_of(&matches) {
             Some(job) => do_job(
-                alloc, job, drives, readers, folders, makers, input, progress, out, error,
+                alloc, job, drives, readers, folders, makers, host, input, progress, out, error,
             ),
             None => (refuse(missing(alloc, &matches), error), out),
         },
@@ -229,8 +250,8 @@ fn perform_words<
 }
 
 /// The program over standard output and standard error, over the drives that it inserts images in, those that only read
-/// them, the folders that it copies files into, the drives that new images are made for, and standard input. `progress` shows which file is copied. It returns the exit status,
-/// and standard output.
+/// them, the folders that it copies files into, the drives that new images are made for, the files of the host that it
+/// reads, and standard input. `progress` shows which file is copied. It returns the exit status, and standard output.
 pub fn perform<
     M: Medium + Drop,
     D: Drives<M>,
@@ -240,6 +261,8 @@ pub fn perform<
     G: Folders<F>,
     O: Medium + Drop,
     W: Makers<O>,
+    H: TapeFile + Drop,
+    I: Images<H>,
     S: Source,
     P: Sink + Drop,
     K: Sink + Drop,
@@ -251,6 +274,7 @@ pub fn perform<
     readers: &mut R,
     folders: &mut G,
     makers: &mut W,
+    host: &mut I,
     input: &mut S,
     progress: Progress<P>,
     out: K,
@@ -269,6 +293,7 @@ pub fn perform<
         (medium_sight ⟦<MemoryMedium as Medium>⟧.view ⟦<MemoryMedium as Medium>⟧.refuses)
         (folder_sight F.view (G.lent folders.old) (G.lent folders.new))
         (maker_sight O.view (W.making makers.old) (W.making makers.new))
+        (host_sight H.view I.view host.old host.new)
         (input_of (S.left input.old) (S.faults input.old)) (input_of (S.left input.new) (S.faults input.new)) (arguments_in (map string_bytes list.items)) result.0
         (written (K.written out) (K.faults out) (E.written error.old) (E.faults error.old))
         (written (K.written result.1) (K.faults result.1) (E.written error.new) (E.faults error.new))) }
@@ -276,10 +301,11 @@ pub fn perform<
     ensures readers { Uses (readers_for (wanted_in words)) (R.lent readers.old) (R.lent readers.new) }
     ensures folders { Uses (folders_for (wanted_in words)) (G.lent folders.old) (G.lent folders.new) }
     ensures makers { Uses (makers_for (wanted_in words)) (W.making makers.old).lending (W.making makers.new).lending }
+    ensures host { HostFor (wanted_in words) host.old host.new }
 {
     match words {
         Ok(words) => perform_words(
-            alloc, &words, drives, readers, folders, makers, input, progress, out, error,
+            alloc, &words, drives, readers, folders, makers, host, input, progress, out, error,
         ),
         Err(unread) => (refuse_unread(&unread, error), out),
     }

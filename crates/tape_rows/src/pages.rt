@@ -20,6 +20,7 @@ Jobs:
   new      Makes a new image of a tape or a disc, with a volume
   put      Stores a text from standard input as a new file NAME
   set      Stores a text from standard input as file NAME, new or in place of a text of that name
+  in       Copies host files onto IMAGE
   purge    Purges files of IMAGE
   rename   Gives a file of IMAGE another name
   adopt    Gives a volume of another program its redo file
@@ -188,6 +189,34 @@ name whole or not at all. If a file of that name has another type, that file sta
 and a message says so. Once the text is stored, 'tape set' prints NAME, unless '-q' is given.
 ";
 
+const IN: &str = "\
+Copies host files onto IMAGE
+
+Usage: tape in [OPTIONS] IMAGE FILE...
+
+Arguments:
+  [IMAGE]    The image file
+  [FILE]...  The path of a host file that is named NAME.TYPE.FIELD
+
+Options:
+      --over   Replace a file of that name that is on IMAGE
+      --mend   Change a name that the volume cannot take
+  -q, --quiet  Do not print the names of the stored files
+      --help   Print this page
+
+A FILE is named NAME.TYPE.FIELD, as 'tape out' names it. In NAME, %HH is the byte HH hex. TYPE
+has four hex digits, and FIELD has eight. 'tape in' reads every FILE whole before it opens IMAGE.
+If IMAGE already has a file of that name, that file stays as it is, and a message says so. With
+'--over', 'tape in' replaces that file whole or not at all.
+
+With '--mend', 'tape in' changes a name that the volume cannot take. Small letters become capital
+letters, and each byte that is no letter, digit or _ becomes _. If the first byte is no letter, X
+is put before it. The name is cut to ten bytes. A name that another FILE has gets a number.
+
+'tape in' prints a file's name once the file is safe on IMAGE. For a name that was changed, it
+prints both names, as in 'A+B: stored as A_B'. With '-q', it prints nothing.
+";
+
 const PURGE: &str = "\
 Purges files of IMAGE
 
@@ -266,6 +295,7 @@ fn each_page_is_printed(rt: HostRuntime) -> Result<(), Fail> {
         (Some(Topic::New), NEW),
         (Some(Topic::Put), PUT),
         (Some(Topic::Set), SET),
+        (Some(Topic::In), IN),
         (Some(Topic::Purge), PURGE),
         (Some(Topic::Rename), RENAME),
         (Some(Topic::Adopt), ADOPT),

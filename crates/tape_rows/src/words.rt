@@ -203,8 +203,48 @@ fn arguments_ask_for_new_images_and_texts(rt: HostRuntime) -> Result<(), Fail> {
     Ok(())
 }
 
+/// What `in` is asked for: files replaced, names changed, no name printed, and the host files.
+type Stored = (bool, bool, bool, &'static [&'static str]);
+
+/// Arguments, and what they ask to store on TAPE.
+const STORED: [(&str, Stored); 8] = [
+    ("in TAPE A", (false, false, false, &["A"])),
+    (
+        "in TAPE out/B.0001.00000000 A B",
+        (false, false, false, &["out/B.0001.00000000", "A", "B"]),
+    ),
+    ("in --over TAPE A", (true, false, false, &["A"])),
+    ("in TAPE --mend A", (false, true, false, &["A"])),
+    ("in -q TAPE A", (false, false, true, &["A"])),
+    (
+        "in TAPE A --quiet B --mend --over",
+        (true, true, true, &["A", "B"]),
+    ),
+    (
+        "in TAPE -- --over -q",
+        (false, false, false, &["--over", "-q"]),
+    ),
+    ("in TAPE in", (false, false, false, &["in"])),
+];
+
+#[test]
+fn arguments_ask_for_host_files(rt: HostRuntime) -> Result<(), Fail> {
+    let image = "TAPE";
+    for (text, (over, mend, quiet, files)) in STORED {
+        let wanted = Job::In {
+            over,
+            mend,
+            quiet,
+            image,
+            files,
+        };
+        assert!(rt; asks(rt.alloc(), text, wanted)?, "{text}");
+    }
+    Ok(())
+}
+
 /// Arguments, and the job that they ask to explain.
-const HELPS: [(&str, Option<Topic>); 26] = [
+const HELPS: [(&str, Option<Topic>); 28] = [
     ("help", None),
     ("--help", None),
     ("--help --version", None),
@@ -229,6 +269,8 @@ const HELPS: [(&str, Option<Topic>); 26] = [
     ("help new", Some(Topic::New)),
     ("put --help", Some(Topic::Put)),
     ("help set", Some(Topic::Set)),
+    ("help in", Some(Topic::In)),
+    ("in --help TAPE --over", Some(Topic::In)),
     ("help help", Some(Topic::Help)),
     ("help --help dir", Some(Topic::Help)),
 ];
@@ -263,7 +305,7 @@ fn refusal(alloc: Global, words: &[String]) -> Result<Option<String>, AllocError
 }
 
 /// Arguments that are refused, and how the message begins.
-const REFUSED: [(&str, &str); 42] = [
+const REFUSED: [(&str, &str); 45] = [
     (
         "",
         "Does one job with image files of HP-IL tapes and discs\n",
@@ -339,6 +381,18 @@ const REFUSED: [(&str, &str); 42] = [
     (
         "set --over TAPE A",
         "tape: unexpected argument '--over' found\n",
+    ),
+    (
+        "in --over TAPE",
+        "tape: in needs IMAGE and at least one FILE; 'tape help in' explains it\n",
+    ),
+    (
+        "in -q",
+        "tape: in needs IMAGE and at least one FILE; 'tape help in' explains it\n",
+    ),
+    (
+        "in --all TAPE A",
+        "tape: unexpected argument '--all' found\n",
     ),
     ("upgrade TAPE B", "tape: unexpected argument 'B' found\n"),
     ("why TAPE B", "tape: unexpected argument 'B' found\n"),

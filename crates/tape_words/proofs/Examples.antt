@@ -3,7 +3,7 @@ use Rattle.std.proofs.Common.{◌≡◌, [], ◌∷◌, Some, None, true, false,
 use Rattle.clap.proofs.OnLiterals.{clap_on_literals}
 use Rattle.tape_words.specs.declared.jobs.Topic.TheVariants as topic
 use Rattle.tape_words.specs.Simple.{tape_app}
-use Rattle.tape_words.specs.Asked.{Dir, Out, Get, Raw, Free, Map, Why, Diff, New, Put, Set, Help, Version, arguments_in}
+use Rattle.tape_words.specs.Asked.{Dir, Out, Get, Raw, Free, Map, Why, Diff, New, Put, Set, In, Help, Version, arguments_in}
 
 listing : arguments_in (codes "dir" ∷ codes "TAPE" ∷ []) ≡ Some (Dir false false (codes "TAPE" ∷ []))
 unfolding tape_app clap_on_literals
@@ -69,6 +69,17 @@ stores : (arguments_in (codes "put" ∷ codes "TAPE" ∷ codes "NOTE" ∷ []) �
     × (arguments_in (codes "set" ∷ codes "-q" ∷ codes "TAPE" ∷ []) ≡ None)
 unfolding tape_app clap_on_literals
 stores = (refl, refl, refl, refl)
+
+-- the options may stand anywhere, and the files keep their order
+host_files : (arguments_in (codes "in" ∷ codes "TAPE" ∷ codes "B" ∷ codes "A" ∷ [])
+    ≡ Some (In false false false (codes "TAPE") (codes "B" ∷ codes "A" ∷ [])))
+    × (arguments_in (codes "in" ∷ codes "--over" ∷ codes "TAPE" ∷ codes "-q" ∷ codes "A" ∷ [])
+    ≡ Some (In true false true (codes "TAPE") (codes "A" ∷ [])))
+    × (arguments_in (codes "in" ∷ codes "TAPE" ∷ codes "A" ∷ codes "--mend" ∷ [])
+    ≡ Some (In false true false (codes "TAPE") (codes "A" ∷ [])))
+    × (arguments_in (codes "in" ∷ codes "TAPE" ∷ []) ≡ None)
+unfolding tape_app clap_on_literals
+host_files = (refl, refl, refl, refl)
 
 helps : (arguments_in (codes "help" ∷ []) ≡ Some (Help None)) × (arguments_in (codes "--help" ∷ []) ≡ Some (Help None))
     × (arguments_in (codes "help" ∷ codes "dir" ∷ []) ≡ Some (Help (Some topic.Dir)))

@@ -1,7 +1,8 @@
 -- What the arguments ask for.
-use Rattle.std.specs.Prelude.{Bool, true, false, List, [], ◌∷◌, map, Option, Some, None, codes, option_map, option_and_then, unwrap_or, if◌then◌else◌, Result, Ok, Err, String}
+use Rattle.std.specs.Prelude.{Bool, List, [], ◌∷◌, map, Option, Some, None, codes, option_map, option_and_then, unwrap_or, if◌then◌else◌, Result, Ok, Err, String}
 use Rattle.std.specs.declared.alloc.AllocError.{AllocError}
 use Rattle.std.specs.declared.alloc.Global.{Global}
+use Rattle.std.specs.Option.{option_or}
 use Rattle.std.specs.Str.{bytes_eq}
 use Rattle.clap.specs.Words.{Row, Text, Kinds, first_of, all_of, fault_of, matches_of, subcommand_of, found_of, rows_of, subcommand_rows_of}
 use Rattle.clap.specs.declared.parser.matches.ArgMatches.{ArgMatches}
@@ -37,6 +38,9 @@ pub data Wanted : Type 0 where
   Put : (quiet : Bool) (image name : Text) → Wanted
   -- the same, as a new file or in place of a text of that name
   Set : (quiet : Bool) (image name : Text) → Wanted
+  -- host files stored on the image: in place of files of the same names or not, with names changed that the volume
+  -- cannot take or not, and with the stored names printed or not
+  In : (over mend quiet : Bool) (image : Text) (files : List Text) → Wanted
   -- the files of these names purged
   Purge : (image : Text) (names : List Text) → Wanted
   -- a file renamed
@@ -49,22 +53,9 @@ pub data Wanted : Type 0 where
   Help : (topic : Option Topic) → Wanted
   Version : Wanted
 
--- the job of this name, if it makes or changes an image; or that of help
-abbrev pub changing_topic : Text → Option Topic
-changing_topic name =
-    if bytes_eq name (codes "new") then Some topic.New
-    else if bytes_eq name (codes "put") then Some topic.Put
-    else if bytes_eq name (codes "set") then Some topic.Set
-    else if bytes_eq name (codes "purge") then Some topic.Purge
-    else if bytes_eq name (codes "rename") then Some topic.Rename
-    else if bytes_eq name (codes "adopt") then Some topic.Adopt
-    else if bytes_eq name (codes "upgrade") then Some topic.Upgrade
-    else if bytes_eq name (codes "help") then Some topic.Help
-    else None
-
--- the job of this name
-abbrev pub topic_in : Text → Option Topic
-topic_in name =
+-- the job of this name, if it reads images
+abbrev pub reading_topic : Text → Option Topic
+reading_topic name =
     if bytes_eq name (codes "dir") then Some topic.Dir
     else if bytes_eq name (codes "out") then Some topic.Out
     else if bytes_eq name (codes "get") then Some topic.Get
@@ -73,7 +64,30 @@ topic_in name =
     else if bytes_eq name (codes "map") then Some topic.Map
     else if bytes_eq name (codes "why") then Some topic.Why
     else if bytes_eq name (codes "diff") then Some topic.Diff
-    else changing_topic name
+    else None
+
+-- the job of this name, if it makes an image or stores files on one
+abbrev pub storing_topic : Text → Option Topic
+storing_topic name =
+    if bytes_eq name (codes "new") then Some topic.New
+    else if bytes_eq name (codes "put") then Some topic.Put
+    else if bytes_eq name (codes "set") then Some topic.Set
+    else if bytes_eq name (codes "in") then Some topic.In
+    else None
+
+-- the job of this name, if it changes the volume of an image; or that of help
+abbrev pub changing_topic : Text → Option Topic
+changing_topic name =
+    if bytes_eq name (codes "purge") then Some topic.Purge
+    else if bytes_eq name (codes "rename") then Some topic.Rename
+    else if bytes_eq name (codes "adopt") then Some topic.Adopt
+    else if bytes_eq name (codes "upgrade") then Some topic.Upgrade
+    else if bytes_eq name (codes "help") then Some topic.Help
+    else None
+
+-- the job of this name
+abbrev pub topic_in : Text → Option Topic
+topic_in name = option_or (option_or (reading_topic name) (storing_topic name)) (changing_topic name)
 
 -- help for the program, or for the job that is named; a name of no job is refused
 abbrev pub help_in : Option Text → Option Wanted
@@ -109,6 +123,12 @@ asked_for topic.Put rows =
     option_map (λ p. Put (is_switched_on (codes "quiet") rows) p.0 p.1) (pair_in (codes "image") (codes "name") rows)
 asked_for topic.Set rows =
     option_map (λ p. Set (is_switched_on (codes "quiet") rows) p.0 p.1) (pair_in (codes "image") (codes "name") rows)
+asked_for topic.In rows = option_and_then
+    (λ i. option_map
+    (In (is_switched_on (codes "over") rows) (is_switched_on (codes "mend") rows)
+    (is_switched_on (codes "quiet") rows) i)
+    (all_of (codes "files") rows))
+    (first_of (codes "image") rows)
 asked_for topic.Purge rows =
     option_and_then (λ i. option_map (Purge i) (all_of (codes "names") rows)) (first_of (codes "image") rows)
 asked_for topic.Rename rows =
@@ -116,18 +136,6 @@ asked_for topic.Rename rows =
 asked_for topic.Adopt rows = option_map Adopt (first_of (codes "image") rows)
 asked_for topic.Upgrade rows = option_map Upgrade (first_of (codes "image") rows)
 asked_for topic.Help rows = help_in (first_of (codes "job") rows)
-
--- a job that makes or changes an image, or help
-abbrev pub changes_or_helps : Topic → Bool
-changes_or_helps topic.New = true
-changes_or_helps topic.Put = true
-changes_or_helps topic.Set = true
-changes_or_helps topic.Purge = true
-changes_or_helps topic.Rename = true
-changes_or_helps topic.Adopt = true
-changes_or_helps topic.Upgrade = true
-changes_or_helps topic.Help = true
-changes_or_helps t = false
 
 -- the job of this name; its `--help` goes before its other arguments
 abbrev pub asked_as : Text → List Row → Option Wanted
@@ -166,6 +174,7 @@ job_asked (job.Diff image other) = Diff image.now other.now
 job_asked (job.New disc small image label slots) = New disc small image.now label.now slots.now
 job_asked (job.Put quiet image name) = Put quiet image.now name.now
 job_asked (job.Set quiet image name) = Set quiet image.now name.now
+job_asked (job.In over mend quiet image files) = In over mend quiet image.now (map (λ s. s.now) files.now)
 job_asked (job.Purge image names) = Purge image.now (map (λ s. s.now) names.now)
 job_asked (job.Rename image old new) = Rename image.now old.now new.now
 job_asked (job.Adopt image) = Adopt image.now

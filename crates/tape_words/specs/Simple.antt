@@ -76,6 +76,15 @@ abbrev pub store_app : Text → App
 store_app job = with_rule (with_rule (with_rule (with_rule (plain_app job) (one_rule (codes "image"))) (one_rule (codes "name")))
     (short_switch_rule (codes "quiet") 113)) (switch_rule (codes "help"))
 
+-- the arguments of `in`, except for `--quiet` and `--help`: `in [--over] [--mend] IMAGE FILE..`
+abbrev pub in_files_app : App
+in_files_app = with_rule (with_rule (with_rule (with_rule (plain_app (codes "in")) (one_rule (codes "image")))
+    (several_rule (codes "files"))) (switch_rule (codes "over"))) (switch_rule (codes "mend"))
+
+-- `in [--over] [--mend] [-q] [--help] IMAGE FILE..`
+abbrev pub in_app : App
+in_app = with_rule (with_rule in_files_app (short_switch_rule (codes "quiet") 113)) (switch_rule (codes "help"))
+
 -- `purge [--help] IMAGE NAME..`
 abbrev pub purge_app : App
 purge_app = with_rule (with_rule (with_rule (plain_app (codes "purge")) (one_rule (codes "image"))) (several_rule (codes "names")))
@@ -102,6 +111,7 @@ app_for topic.Diff = diff_app
 app_for topic.New = new_image_app
 app_for topic.Put = store_app (codes "put")
 app_for topic.Set = store_app (codes "set")
+app_for topic.In = in_app
 app_for topic.Purge = purge_app
 app_for topic.Rename = rename_app
 app_for topic.Adopt = image_app (codes "adopt")
@@ -126,14 +136,14 @@ abbrev pub telling_app : App
 telling_app = with_subcommand (with_subcommand (with_subcommand (with_subcommand reading_app
     (app_for topic.Free).top) (app_for topic.Map).top) (app_for topic.Why).top) (app_for topic.Diff).top
 
--- and with those that make an image or store a text
-abbrev pub making_app : App
-making_app = with_subcommand (with_subcommand (with_subcommand telling_app
-    (app_for topic.New).top) (app_for topic.Put).top) (app_for topic.Set).top
+-- and with those that make an image or store files on one
+abbrev pub storing_app : App
+storing_app = with_subcommand (with_subcommand (with_subcommand (with_subcommand telling_app
+    (app_for topic.New).top) (app_for topic.Put).top) (app_for topic.Set).top) (app_for topic.In).top
 
--- and with those that change images
+-- and with those that change the volume of an image
 abbrev pub changing_app : App
-changing_app = with_subcommand (with_subcommand (with_subcommand (with_subcommand making_app
+changing_app = with_subcommand (with_subcommand (with_subcommand (with_subcommand storing_app
     (app_for topic.Purge).top) (app_for topic.Rename).top) (app_for topic.Adopt).top) (app_for topic.Upgrade).top
 
 unfoldable pub tape_app : App

@@ -5,7 +5,7 @@ ghost use Rattle.clap.specs.declared.error.kind.ErrorKind.TheVariants as kinds;
 ghost use Rattle.tape_words.specs.declared.jobs.Topic.TheVariants as topics;
 ghost use Rattle.tape_words.specs.Simple.{is_switched_on};
 ghost use Rattle.tape_words.specs.Asked.{IfRefused, arguments_in, job_asked, job_found_in, told_by};
-ghost use Rattle.tape_words.specs.Asked.{asked_as, asked_for, changes_or_helps, help_in, pair_in, triple_in};
+ghost use Rattle.tape_words.specs.Asked.{asked_as, asked_for, help_in, pair_in, triple_in};
 
 use crate::jobs::{Job, Topic, topic_of};
 use crate::rules::command;
@@ -127,6 +127,40 @@ fn help_for<'r>(name: Option<&str>) -> Option<Job<'r>>
     Some(Job::Help { topic })
 }
 
+/// The job that lists images, with the arguments that were found for it.
+fn dir_job<'r, 'a>(found: &'r ArgMatches<'a>) -> Option<Job<'r>>
+    ensures { option_map job_asked result ≡ asked_for topics.Dir (rows_of (found_of found.now)) }
+{
+    let images = values(found, "image")?;
+    Some(Job::Dir {
+        all: is_switched_on(found, "all"),
+        csv: is_switched_on(found, "csv"),
+        images,
+    })
+}
+
+/// The job that copies files into a folder, with the arguments that were found for it.
+fn out_job<'r, 'a>(found: &'r ArgMatches<'a>) -> Option<Job<'r>>
+    ensures { option_map job_asked result ≡ asked_for topics.Out (rows_of (found_of found.now)) }
+{
+    let (image, folder) = pair(found, "image", "folder")?;
+    let names = any_values(found, "names");
+    Some(Job::Out {
+        image,
+        folder,
+        names,
+    })
+}
+
+/// The job that prints a picture, with the arguments that were found for it.
+fn map_job<'r, 'a>(found: &'r ArgMatches<'a>) -> Option<Job<'r>>
+    ensures { option_map job_asked result ≡ asked_for topics.Map (rows_of (found_of found.now)) }
+{
+    let image = value(found, "image")?;
+    let svg = is_switched_on(found, "svg");
+    Some(Job::Map { svg, image })
+}
+
 /// The job that makes an image, with the arguments that were found for it.
 fn new_job<'r, 'a>(found: &'r ArgMatches<'a>) -> Option<Job<'r>>
     ensures { option_map job_asked result ≡ asked_for topics.New (rows_of (found_of found.now)) }
@@ -159,34 +193,28 @@ fn set_job<'r, 'a>(found: &'r ArgMatches<'a>) -> Option<Job<'r>>
     Some(Job::Set { quiet, image, name })
 }
 
-/// The job that makes or changes an image, with the arguments that were found for it; or that of help.
-fn changing_job<'r, 'a>(topic: Topic, found: &'r ArgMatches<'a>) -> Option<Job<'r>>
-    requires { changes_or_helps topic ≡ true }
-    ensures { option_map job_asked result ≡ asked_for topic (rows_of (found_of found.now)) }
+/// The job that copies files of the host onto an image, with the arguments that were found for it.
+fn in_job<'r, 'a>(found: &'r ArgMatches<'a>) -> Option<Job<'r>>
+    ensures { option_map job_asked result ≡ asked_for topics.In (rows_of (found_of found.now)) }
 {
-    match topic {
-        Topic::New => new_job(found),
-        Topic::Put => put_job(found),
-        Topic::Set => set_job(found),
-        Topic::Purge => {
-            let image = value(found, "image")?;
-            let names = values(found, "names")?;
-            Some(Job::Purge { image, names })
-        }
-        Topic::Rename => {
-            let (image, old, new) = triple(found, "image", "old", "new")?;
-            Some(Job::Rename { image, old, new })
-        }
-        Topic::Adopt => {
-            let image = value(found, "image")?;
-            Some(Job::Adopt { image })
-        }
-        Topic::Upgrade => {
-            let image = value(found, "image")?;
-            Some(Job::Upgrade { image })
-        }
-        _ => help_for(value(found, "job")),
-    }
+    let image = value(found, "image")?;
+    let files = values(found, "files")?;
+    Some(Job::In {
+        over: is_switched_on(found, "over"),
+        mend: is_switched_on(found, "mend"),
+        quiet: is_switched_on(found, "quiet"),
+        image,
+        files,
+    })
+}
+
+/// The job that purges files, with the arguments that were found for it.
+fn purge_job<'r, 'a>(found: &'r ArgMatches<'a>) -> Option<Job<'r>>
+    ensures { option_map job_asked result ≡ asked_for topics.Purge (rows_of (found_of found.now)) }
+{
+    let image = value(found, "image")?;
+    let names = values(found, "names")?;
+    Some(Job::Purge { image, names })
 }
 
 /// The job, with the arguments that were found for it.
@@ -194,49 +222,30 @@ fn job_for<'r, 'a>(topic: Topic, found: &'r ArgMatches<'a>) -> Option<Job<'r>>
     ensures { option_map job_asked result ≡ asked_for topic (rows_of (found_of found.now)) }
 {
     match topic {
-        Topic::Dir => {
-            let images = values(found, "image")?;
-            Some(Job::Dir {
-                all: is_switched_on(found, "all"),
-                csv: is_switched_on(found, "csv"),
-                images,
-            })
-        }
-        Topic::Out => {
-            let (image, folder) = pair(found, "image", "folder")?;
-            let names = any_values(found, "names");
-            Some(Job::Out {
-                image,
-                folder,
-                names,
-            })
-        }
-        Topic::Get => {
-            let (image, name) = pair(found, "image", "name")?;
-            Some(Job::Get { image, name })
-        }
-        Topic::Raw => {
-            let (image, name) = pair(found, "image", "name")?;
-            Some(Job::Raw { image, name })
-        }
-        Topic::Free => {
-            let image = value(found, "image")?;
-            Some(Job::Free { image })
-        }
-        Topic::Map => {
-            let image = value(found, "image")?;
-            let svg = is_switched_on(found, "svg");
-            Some(Job::Map { svg, image })
-        }
-        Topic::Why => {
-            let image = value(found, "image")?;
-            Some(Job::Why { image })
-        }
-        Topic::Diff => {
-            let (image, other) = pair(found, "image", "other")?;
-            Some(Job::Diff { image, other })
-        }
-        topic => changing_job(topic, found),
+        Topic::Dir => dir_job(found),
+        Topic::Out => out_job(found),
+        Topic::Get => pair(found, "image", "name").map(|(image, name)| Job::Get { image, name }),
+        Topic::Raw => pair(found, "image", "name").map(|(image, name)| Job::Raw { image, name }),
+        Topic::Free => value(found, "image").map(|image| Job::Free { image }),
+        Topic::Map => map_job(found),
+        Topic::Why => value(found, "image").map(|image| Job::Why { image }),
+        Topic::Diff => pair(found, "image", "other").map(|(image, other)| Job::Diff {
+            image,
+            other,
+        }),
+        Topic::New => new_job(found),
+        Topic::Put => put_job(found),
+        Topic::Set => set_job(found),
+        Topic::In => in_job(found),
+        Topic::Purge => purge_job(found),
+        Topic::Rename => triple(found, "image", "old", "new").map(|(image, old, new)| Job::Rename {
+            image,
+            old,
+            new,
+        }),
+        Topic::Adopt => value(found, "image").map(|image| Job::Adopt { image }),
+        Topic::Upgrade => value(found, "image").map(|image| Job::Upgrade { image }),
+        Topic::Help => help_for(value(found, "job")),
     }
 }
 

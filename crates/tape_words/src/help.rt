@@ -42,6 +42,7 @@ fn needs(topic: Topic) -> &'static str {
         Topic::Free | Topic::Map | Topic::Why | Topic::Adopt | Topic::Upgrade => "IMAGE",
         Topic::Diff => "IMAGE and OTHER",
         Topic::New => "IMAGE, LABEL and SLOTS",
+        Topic::In => "IMAGE and at least one FILE",
         Topic::Purge => "IMAGE and at least one NAME",
         Topic::Rename => "IMAGE, OLD and NEW",
         Topic::Help => "no argument",

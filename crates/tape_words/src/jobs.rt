@@ -1,5 +1,5 @@
 ghost use Rattle.std.specs.Prelude.{◌≡◌};
-ghost use Rattle.tape_words.specs.Asked.{changing_topic, topic_in};
+ghost use Rattle.tape_words.specs.Asked.{changing_topic, reading_topic, storing_topic, topic_in};
 
 /// A job that `tape help` can explain.
 #[derive(Clone, Copy, Debug, PartialEq, Eq)]
@@ -26,6 +26,8 @@ pub enum Topic {
     Put,
     /// `tape set`.
     Set,
+    /// `tape in`.
+    In,
     /// `tape purge`.
     Purge,
     /// `tape rename`.
@@ -129,6 +131,19 @@ pub enum Job<'a> {
         /// The name of the file.
         name: &'a str,
     },
+    /// Copies files of the host onto an image.
+    In {
+        /// Whether a file of the image is replaced if it has the name of a host file. If it is not, it stays.
+        over: bool,
+        /// Whether a name that a volume cannot take is changed into one that it can take.
+        mend: bool,
+        /// Whether the names of the stored files are not printed.
+        quiet: bool,
+        /// The name of the image.
+        image: &'a str,
+        /// The paths of the files, at least one, in the order of the arguments.
+        files: &'a [&'a str],
+    },
     /// Purges files of an image.
     Purge {
         /// The name of the image.
@@ -168,6 +183,15 @@ pub enum Job<'a> {
 pub(crate) fn topic_of(name: &str) -> Option<Topic>
     ensures { result ≡ topic_in name.now }
 {
+    reading_topic(name)
+        .or(storing_topic(name))
+        .or(changing_topic(name))
+}
+
+/// The job of this name, if it reads images.
+fn reading_topic(name: &str) -> Option<Topic>
+    ensures { result ≡ reading_topic name.now }
+{
     if name == "dir" {
         return Some(Topic::Dir);
     }
@@ -192,12 +216,12 @@ pub(crate) fn topic_of(name: &str) -> Option<Topic>
     if name == "diff" {
         return Some(Topic::Diff);
     }
-    changing_topic(name)
+    None
 }
 
-/// The job of this name, if it makes or changes an image; or that of help.
-fn changing_topic(name: &str) -> Option<Topic>
-    ensures { result ≡ changing_topic name.now }
+/// The job of this name, if it makes an image or stores files on one.
+fn storing_topic(name: &str) -> Option<Topic>
+    ensures { result ≡ storing_topic name.now }
 {
     if name == "new" {
         return Some(Topic::New);
@@ -208,6 +232,16 @@ fn changing_topic(name: &str) -> Option<Topic>
     if name == "set" {
         return Some(Topic::Set);
     }
+    if name == "in" {
+        return Some(Topic::In);
+    }
+    None
+}
+
+/// The job of this name, if it changes the volume of an image; or that of help.
+fn changing_topic(name: &str) -> Option<Topic>
+    ensures { result ≡ changing_topic name.now }
+{
     if name == "purge" {
         return Some(Topic::Purge);
     }

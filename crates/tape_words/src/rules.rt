@@ -5,13 +5,25 @@ ghost use Rattle.tape_words.specs.Simple.{switch_rule, short_switch_rule, one_ru
 ghost use Rattle.tape_words.specs.Simple.{plain_app, dir_app, out_app, file_app, image_app, map_app};
 ghost use Rattle.tape_words.specs.Simple.{diff_app, help_app, purge_app, rename_app};
 ghost use Rattle.tape_words.specs.Simple.{new_volume_app, new_image_app, store_app};
+ghost use Rattle.tape_words.specs.Simple.{in_files_app, in_app};
 ghost use Rattle.tape_words.specs.Simple.{app_for};
-ghost use Rattle.tape_words.specs.Asked.{changes_or_helps};
 ghost use Rattle.tape_words.specs.Simple.{top_app, program_app, tape_app, page_app};
 
 use crate::jobs::Topic;
 use clap::{Arg, ArgAction, Command};
 use std::alloc::{AllocError, Global};
+
+/// What `tape help` says of `raw`.
+const RAW_ABOUT: &str = "Writes the bytes of a file, as many as its directory entry tells";
+
+/// What `tape help` says of `why`.
+const WHY_ABOUT: &str = "Prints why IMAGE can or cannot be listed and changed";
+
+/// What `tape help` says of `adopt`.
+const ADOPT_ABOUT: &str = "Gives a volume of another program its redo file";
+
+/// What `tape help` says of `upgrade`.
+const UPGRADE_ABOUT: &str = "Makes the redo file large, so that files can be replaced";
 
 /// What a page of help says of IMAGE, for a job on one image.
 const IMAGE_HELP: &str = "The image file";
@@ -47,6 +59,32 @@ const SET_HELP: &str = "\
 'tape set' reads the text to its end before it opens IMAGE. It replaces a text file of that
 name whole or not at all. If a file of that name has another type, that file stays as it is,
 and a message says so. Once the text is stored, 'tape set' prints NAME, unless '-q' is given.";
+
+/// What a page of help says of FILE.
+const FILE_HELP: &str = "The path of a host file that is named NAME.TYPE.FIELD";
+
+/// What a page of help says of `--over`.
+const OVER_HELP: &str = "Replace a file of that name that is on IMAGE";
+
+/// What a page of help says of `--mend`.
+const MEND_HELP: &str = "Change a name that the volume cannot take";
+
+/// What a page of help says of `--quiet`, for a job that stores several files.
+const QUIET_HELP: &str = "Do not print the names of the stored files";
+
+/// What the page of `in` says at its end.
+const IN_HELP: &str = "\
+A FILE is named NAME.TYPE.FIELD, as 'tape out' names it. In NAME, %HH is the byte HH hex. TYPE
+has four hex digits, and FIELD has eight. 'tape in' reads every FILE whole before it opens IMAGE.
+If IMAGE already has a file of that name, that file stays as it is, and a message says so. With
+'--over', 'tape in' replaces that file whole or not at all.
+
+With '--mend', 'tape in' changes a name that the volume cannot take. Small letters become capital
+letters, and each byte that is no letter, digit or _ becomes _. If the first byte is no letter, X
+is put before it. The name is cut to ten bytes. A name that another FILE has gets a number.
+
+'tape in' prints a file's name once the file is safe on IMAGE. For a name that was changed, it
+prints both names, as in 'A+B: stored as A_B'. With '-q', it prints nothing.";
 
 /// An option without a value.
 fn flag<'a>(alloc: Global, id: &'a str, help: &'a str) -> Arg<'a>
@@ -313,6 +351,34 @@ fn set<'a>(alloc: Global) -> Result<Command<'a>, AllocError>
     Ok(command.after_help(SET_HELP))
 }
 
+/// The command of `in`, without `--quiet` and `--help`.
+fn in_files<'a>(alloc: Global) -> Result<Command<'a>, AllocError>
+    ensures app { IfOk result (λ c. app_of c ≡ in_files_app) }
+    ensures local { IfOk result (λ c. (out-Command c).has_globals ≡ false) }
+{
+    let command = plain(
+        alloc,
+        "in",
+        "Copies host files onto IMAGE",
+        "tape in [OPTIONS] IMAGE FILE...",
+    )
+    .arg(one(alloc, "image", "IMAGE", IMAGE_HELP))?
+    .arg(several(alloc, "files", "FILE", FILE_HELP))?
+    .arg(flag(alloc, "over", OVER_HELP))?
+    .arg(flag(alloc, "mend", MEND_HELP))?;
+    Ok(command)
+}
+
+fn copy_in<'a>(alloc: Global) -> Result<Command<'a>, AllocError>
+    ensures app { IfOk result (λ c. app_of c ≡ in_app) }
+    ensures local { IfOk result (λ c. (out-Command c).has_globals ≡ false) }
+{
+    let command = in_files(alloc)?
+        .arg(short_flag(alloc, "quiet", 'q', QUIET_HELP))?
+        .arg(flag(alloc, "help", "Print this page"))?;
+    Ok(command.after_help(IN_HELP))
+}
+
 fn purge<'a>(alloc: Global) -> Result<Command<'a>, AllocError>
     ensures app { IfOk result (λ c. app_of c ≡ purge_app) }
     ensures local { IfOk result (λ c. (out-Command c).has_globals ≡ false) }
@@ -351,34 +417,6 @@ fn rename<'a>(alloc: Global) -> Result<Command<'a>, AllocError>
     Ok(command)
 }
 
-/// The command that takes the arguments of a job that makes or changes an image, or of help.
-fn changing_command<'a>(alloc: Global, topic: Topic) -> Result<Command<'a>, AllocError>
-    requires { changes_or_helps topic ≡ true }
-    ensures app { IfOk result (λ c. app_of c ≡ app_for topic) }
-    ensures local { IfOk result (λ c. (out-Command c).has_globals ≡ false) }
-{
-    match topic {
-        Topic::New => new_image(alloc),
-        Topic::Put => put(alloc),
-        Topic::Set => set(alloc),
-        Topic::Purge => purge(alloc),
-        Topic::Rename => rename(alloc),
-        Topic::Adopt => image(
-            alloc,
-            "adopt",
-            "Gives a volume of another program its redo file",
-            "tape adopt IMAGE",
-        ),
-        Topic::Upgrade => image(
-            alloc,
-            "upgrade",
-            "Makes the redo file large, so that files can be replaced",
-            "tape upgrade IMAGE",
-        ),
-        _ => help(alloc),
-    }
-}
-
 /// The command that takes the arguments of one job.
 pub(crate) fn job_command<'a>(alloc: Global, topic: Topic) -> Result<Command<'a>, AllocError>
     ensures app { IfOk result (λ c. app_of c ≡ app_for topic) }
@@ -393,12 +431,7 @@ pub(crate) fn job_command<'a>(alloc: Global, topic: Topic) -> Result<Command<'a>
             "Prints the lines of a text file",
             "tape get IMAGE NAME",
         ),
-        Topic::Raw => file(
-            alloc,
-            "raw",
-            "Writes the bytes of a file, as many as its directory entry tells",
-            "tape raw IMAGE NAME",
-        ),
+        Topic::Raw => file(alloc, "raw", RAW_ABOUT, "tape raw IMAGE NAME"),
         Topic::Free => image(
             alloc,
             "free",
@@ -406,14 +439,17 @@ pub(crate) fn job_command<'a>(alloc: Global, topic: Topic) -> Result<Command<'a>
             "tape free IMAGE",
         ),
         Topic::Map => map(alloc),
-        Topic::Why => image(
-            alloc,
-            "why",
-            "Prints why IMAGE can or cannot be listed and changed",
-            "tape why IMAGE",
-        ),
+        Topic::Why => image(alloc, "why", WHY_ABOUT, "tape why IMAGE"),
         Topic::Diff => diff(alloc),
-        topic => changing_command(alloc, topic),
+        Topic::New => new_image(alloc),
+        Topic::Put => put(alloc),
+        Topic::Set => set(alloc),
+        Topic::In => copy_in(alloc),
+        Topic::Purge => purge(alloc),
+        Topic::Rename => rename(alloc),
+        Topic::Adopt => image(alloc, "adopt", ADOPT_ABOUT, "tape adopt IMAGE"),
+        Topic::Upgrade => image(alloc, "upgrade", UPGRADE_ABOUT, "tape upgrade IMAGE"),
+        Topic::Help => help(alloc),
     }
 }
 
@@ -458,6 +494,7 @@ pub(crate) fn command<'a>(alloc: Global) -> Result<Command<'a>, AllocError>
         .subcommand(job_command(alloc, Topic::New)?)?
         .subcommand(job_command(alloc, Topic::Put)?)?
         .subcommand(job_command(alloc, Topic::Set)?)?
+        .subcommand(job_command(alloc, Topic::In)?)?
         .subcommand(job_command(alloc, Topic::Purge)?)?
         .subcommand(job_command(alloc, Topic::Rename)?)?
         .subcommand(job_command(alloc, Topic::Adopt)?)?

@@ -22,4 +22,5 @@ returns c =
     let thirteen = c.in_ok-subcommand-13.ensures.shape c.in_ok-job_command-13.ensures.local ∙ ap₂ with_subcommand twelve (ap top c.in_ok-job_command-13.ensures.app) in
     let fourteen = c.in_ok-subcommand-14.ensures.shape c.in_ok-job_command-14.ensures.local ∙ ap₂ with_subcommand thirteen (ap top c.in_ok-job_command-14.ensures.app) in
     let fifteen = c.in_ok-subcommand-15.ensures.shape c.in_ok-job_command-15.ensures.local ∙ ap₂ with_subcommand fourteen (ap top c.in_ok-job_command-15.ensures.app) in
-    c.in_ok-command.ensures.shape c.in_ok-job_command-16.ensures.local ∙ ap₂ with_subcommand fifteen (ap top c.in_ok-job_command-16.ensures.app)
+    let sixteen = c.in_ok-subcommand-16.ensures.shape c.in_ok-job_command-16.ensures.local ∙ ap₂ with_subcommand fifteen (ap top c.in_ok-job_command-16.ensures.app) in
+    c.in_ok-command.ensures.shape c.in_ok-job_command-17.ensures.local ∙ ap₂ with_subcommand sixteen (ap top c.in_ok-job_command-17.ensures.app)
